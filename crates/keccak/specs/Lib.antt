@@ -1,0 +1,2 @@
+pub mod Fips202
+pub mod Complemented
