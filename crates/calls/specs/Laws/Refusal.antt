@@ -1,0 +1,98 @@
+-- Laws on refusals: what an accepted call has passed, and how code comes to a number of the table.
+use mathlib.Core.Path.{_≡_, refl, sym}
+use mathlib.Core.Bool.{Bool, true, false, cond, _&&_}
+use mathlib.Core.List.{List, [], _∷_}
+use Prim.Native.Nat.{ℕ, zero, suc, _≤_, _<_}
+use native.Mathlib.Omega.{arith}
+use borrow.Author.Tests.{eqb-true, eq-eqb, lt-ltb, le-ltb, ltb-false}
+use lib.Dec.{ltb, eqb}
+use lib.ListN.{length}
+use Rattle.calls.specs.Limits.{maxMessage}
+use Rattle.calls.specs.Start.{sameBytes, startRefusal}
+use Rattle.calls.specs.Call.{Function, Call, startOf, messageOf, outputOf, messageRefusal, outputRefusal, firstOf, refusal, Accepted}
+use Rattle.calls.specs.Count.{runs, reportedWith, count}
+
+-- a test whose number is not given does not hold
+pub test-passed : (t : Bool) (k later : ℕ) → cond t (suc k) later ≡ 0 → (t ≡ false) × (later ≡ 0)
+test-passed true k later e = absurd (omega arith)
+test-passed false k later e = (refl, e)
+
+-- no number is given where neither is
+pub firstOf-passed : (k later : ℕ) → firstOf k later ≡ 0 → (k ≡ 0) × (later ≡ 0)
+firstOf-passed zero later e = (refl, e)
+firstOf-passed (suc k) later e = absurd (omega arith)
+
+firstOf-refused : (k later : ℕ) → (k ≡ 0 → ⊥) → firstOf k later ≡ k
+firstOf-refused zero later h = absurd (h refl)
+firstOf-refused (suc k) later h = refl
+
+-- A call's number, by what refuses it first, and its count
+
+module _ {f : Function} (c : Call f) where
+  pub refusal-start : (startRefusal (startOf c) ≡ 0 → ⊥) → refusal c ≡ startRefusal (startOf c)
+  unfolding refusal
+  refusal-start h = firstOf-refused (startRefusal (startOf c)) _ h
+
+  pub refusal-message : startRefusal (startOf c) ≡ 0 → maxMessage < length (messageOf c) → refusal c ≡ 5
+  unfolding refusal
+  refusal-message s h = rw (s, lt-ltb maxMessage (length (messageOf c)) h)
+
+  pub refusal-output : startRefusal (startOf c) ≡ 0 → length (messageOf c) ≤ maxMessage → refusal c ≡ outputRefusal f (outputOf c)
+  unfolding refusal
+  refusal-output s h = rw (s, le-ltb maxMessage (length (messageOf c)) h)
+
+  pub count-refused : (refusal c ≡ 0 → ⊥) → count c ≡ 0
+  unfolding count
+  count-refused h = go (refusal c) h
+    where
+      go : (k : ℕ) → (k ≡ 0 → ⊥) → reportedWith k (runs c) ≡ 0
+      go zero h = absurd (h refl)
+      go (suc k) h = refl
+
+  pub count-accepted : Accepted c → count c ≡ runs c
+  unfolding count
+  count-accepted h = rw h
+
+  -- What an accepted call has passed
+
+  pub start-accepted : Accepted c → startRefusal (startOf c) ≡ 0
+  unfolding refusal
+  start-accepted h = firstOf-passed (startRefusal (startOf c)) _ h .0
+
+  pub message-accepted : Accepted c → length (messageOf c) ≤ maxMessage
+  unfolding refusal
+  message-accepted h =
+      let passed = firstOf-passed (messageRefusal (length (messageOf c))) _ (firstOf-passed (startRefusal (startOf c)) _ h .1) in
+      ltb-false maxMessage (length (messageOf c)) (test-passed (ltb maxMessage (length (messageOf c))) 4 0 (passed .0) .0)
+
+  pub output-accepted : Accepted c → outputRefusal f (outputOf c) ≡ 0
+  unfolding refusal
+  output-accepted h =
+      firstOf-passed (messageRefusal (length (messageOf c))) _ (firstOf-passed (startRefusal (startOf c)) _ h .1) .1
+
+-- The comparison of names
+
+and-true : (s t : Bool) → (s && t) ≡ true → (s ≡ true) × (t ≡ true)
+and-true true t e = (refl, e)
+and-true false t e = (e, cc)
+
+pub sameBytes-equal : (a b : List ℕ) → sameBytes a b ≡ true → a ≡ b
+sameBytes-equal [] [] e = refl
+sameBytes-equal [] (y ∷ ys) e = cc
+sameBytes-equal (x ∷ xs) [] e = cc
+sameBytes-equal (x ∷ xs) (y ∷ ys) e =
+    let r = and-true (eqb x y) (sameBytes xs ys) e in
+    λ i. eqb-true x y (r .0) i ∷ sameBytes-equal xs ys (r .1) i
+
+pub sameBytes-self : (a : List ℕ) → sameBytes a a ≡ true
+sameBytes-self [] = refl
+sameBytes-self (x ∷ xs) = rw (eq-eqb x x refl) (sameBytes-self xs)
+
+-- a test that holds exactly where the lists are equal, as `check::same` does, is this one
+pub sameBytes-is : (r : Bool) (a b : List ℕ) → (r ≡ true → a ≡ b) × (a ≡ b → r ≡ true) → r ≡ sameBytes a b
+sameBytes-is true a b h = let e : a ≡ b = h .0 refl in rw e (sym (sameBytes-self b))
+sameBytes-is false a b h = go (sameBytes a b) refl
+  where
+    go : (t : Bool) → sameBytes a b ≡ t → false ≡ t
+    go true e = h .1 (sameBytes-equal a b e)
+    go false e = refl

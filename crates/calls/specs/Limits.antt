@@ -1,0 +1,21 @@
+-- The limits of the refusal table (document 01, 'Numbers a caller gets back'), in bytes.
+use Prim.Native.Nat.{ℕ}
+
+-- number 2
+abbrev pub maxKey : ℕ
+maxKey = 4096
+
+-- number 3
+abbrev pub maxName : ℕ
+maxName = 4096
+
+abbrev pub maxCustomisation : ℕ
+maxCustomisation = 4096
+
+-- number 5
+abbrev pub maxMessage : ℕ
+maxMessage = 16777216
+
+-- number 6
+abbrev pub maxOutput : ℕ
+maxOutput = 16777216

@@ -1,0 +1,41 @@
+-- How a call or a session starts: by a name or a key, and a customisation. What the start is refused for, and what it puts before the message.
+use mathlib.Core.Bool.{Bool, true, false, cond, _&&_}
+use mathlib.Core.List.{List, [], _∷_, _++_}
+use Prim.Native.Nat.{ℕ}
+use lib.Dec.{ltb, eqb}
+use lib.ListN.{length}
+use Rattle.encode.specs.Encode.{encodeString, bytepad, KMAC}
+use Rattle.calls.specs.Limits.{maxKey, maxName, maxCustomisation}
+use Rattle.calls.specs.Input.{cshakePrefix, cshakeSuffix}
+
+-- cSHAKE256 starts with N and S, KMAC256 and KMACXOF256 with K and S
+pub data Start : Type 0 where
+  named : (N S : List ℕ) → Start
+  keyed : (K S : List ℕ) → Start
+
+-- byte for byte the same
+abbrev pub sameBytes : List ℕ → List ℕ → Bool
+sameBytes [] [] = true
+sameBytes [] (y ∷ ys) = false
+sameBytes (x ∷ xs) [] = false
+sameBytes (x ∷ xs) (y ∷ ys) = eqb x y && sameBytes xs ys
+
+-- the names that the standard's own functions have
+abbrev pub isReserved : List ℕ → Bool
+isReserved N = sameBytes N KMAC
+
+-- 2, 3 or 4 of the table (document 01, 'Numbers a caller gets back'), the smallest that applies; 0 for none
+unfoldable pub startRefusal : Start → ℕ
+startRefusal (named N S) =
+    cond (ltb maxName (length N)) 3 (cond (ltb maxCustomisation (length S)) 3 (cond (isReserved N) 4 0))
+startRefusal (keyed K S) = cond (ltb maxKey (length K)) 2 (cond (ltb maxCustomisation (length S)) 3 0)
+
+-- the bytes before the message, whole blocks
+unfoldable pub startPrefix : Start → List ℕ
+startPrefix (named N S) = cshakePrefix N S
+startPrefix (keyed K S) = cshakePrefix KMAC S ++ bytepad (encodeString K) 136
+
+-- the suffix byte of the padding
+unfoldable pub startSuffix : Start → ℕ
+startSuffix (named N S) = cshakeSuffix N S
+startSuffix (keyed K S) = cshakeSuffix KMAC S

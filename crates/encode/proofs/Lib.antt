@@ -1,0 +1,3 @@
+-- Lemmas on the bytes that the functions write.
+mod Stored
+mod Filled

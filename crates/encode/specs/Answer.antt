@@ -1,0 +1,16 @@
+-- What `left_encode` and `right_encode` hand back.
+use mathlib.Core.Path.{_≡_}
+use mathlib.Core.List.{List, _++_}
+use Prim.Native.Nat.{ℕ, _-_, _≤_}
+use lib.ListN.{length, replicate}
+use Rattle.encode.specs.declared.Encoded.{Encoded}
+
+-- the code in the first of nine bytes, zeros in the others, and the code's length
+unfoldable pub encoded : List ℕ → Encoded
+encoded code = record { bytes = code ++ replicate (9 - length code) 0; len = length code }
+
+-- the answer for a code, which is never longer than the nine bytes
+pub record Answers (code : List ℕ) (r : Encoded) : Type 0 where
+  pub is : r ≡ encoded code
+  pub fits : r .len ≤ 9
+  pub nine : length (r .bytes) ≡ 9

@@ -1,0 +1,64 @@
+// Encoded numbers as SP 800-185, section 2.3.1, has them: right_encode and left_encode of any
+// number of 64 bits. The definitions are those of specs/Encode.antt.
+ghost use mathlib.Core.Path.{_≡_};
+ghost use Prim.Native.Nat.{_+_, _≤_};
+ghost use lib.ListN.{length};
+ghost use Rattle.encode.specs.Digits.{width};
+ghost use Rattle.encode.specs.Encode.{leftEncode, rightEncode};
+ghost use Rattle.encode.specs.Answer.{Answers};
+ghost use Rattle.encode.specs.Private.{bigEndianAt};
+
+// An encoded number: its first `len` bytes. The others are 0.
+pub struct Encoded {
+    pub bytes: [u8; 9],
+    pub len: usize,
+}
+
+// The fewest bytes, at least one, that hold `n`.
+fn width_of(n: u64) -> usize
+    ensures { λ r. ⌜ (r ≡ width 256 n) × (r ≤ 8) ⌝ }
+{
+    let mut w: usize = 1;
+    let mut x = n;
+    while 256 <= x {
+        x = x / 256;
+        w += 1;
+    }
+    w
+}
+
+// Puts the `w` lowest bytes of `n`, the highest first, from place `at`.
+fn put_be(out: &mut [u8], at: usize, w: usize, n: u64)
+    requires { ⌜ at + w ≤ length (now out) ⌝ }
+    ensures { λ r. ⌜ now (out .exit) ≡ bigEndianAt (now (out .entry)) at w n ⌝ }
+{
+    let mut x = n;
+    let mut i = w;
+    while 0 < i {
+        i -= 1;
+        out[at + i] = (x % 256) as u8;
+        x = x / 256;
+    }
+}
+
+// The bytes of `n`, then their number.
+pub fn right_encode(n: u64) -> Encoded
+    ensures { λ r. ⌜ Answers (rightEncode n) r ⌝ }
+{
+    let w = width_of(n);
+    let mut bytes = [0u8; 9];
+    put_be(&mut bytes, 0, w, n);
+    bytes[w] = w as u8;
+    Encoded { bytes, len: w + 1 }
+}
+
+// The number of the bytes of `n`, then the bytes.
+pub fn left_encode(n: u64) -> Encoded
+    ensures { λ r. ⌜ Answers (leftEncode n) r ⌝ }
+{
+    let w = width_of(n);
+    let mut bytes = [0u8; 9];
+    bytes[0] = w as u8;
+    put_be(&mut bytes, 1, w, n);
+    Encoded { bytes, len: w + 1 }
+}
