@@ -1,0 +1,4 @@
+pub mod Absorbing
+pub mod XorBytes
+pub mod WholeLanes
+pub mod Whole

@@ -1,0 +1,3 @@
+pub mod Sponge
+pub mod Running
+pub mod LittleEndian
