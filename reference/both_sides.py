@@ -1,4 +1,6 @@
-"""Document 01, "Both sides of the line": every row of the table and every count, asked of the reference.
+"""Document 01, "Both sides of the line": every row and every count, asked of the reference.
+
+The walker, writing and the report, which have no cases in vectors/, are asked here too.
 
     python3 reference/both_sides.py
 

@@ -32,6 +32,7 @@ TEXT_OUTPUT = [(4, 0), (3, 6), (5, 6)]
 TAG_LENGTH = [(16, 0), (64, 0), (0, 7), (15, 7), (65, 7)]
 SEALED, SEALED_TAG = sealing.seal(bytes(32), b"", b"text", b"label", 4, 64)[2:]
 TAG = [(SEALED_TAG, 0), (SEALED_TAG[:16], 0), (SEALED_TAG[:15], 7), (b"", 7), (bytes(65), 7), (bytes(16), 8)]
+OPEN_LABEL = [(b"label", 0), (b"other", 8), (OVER, 5)]
 FRESH = generator.Generator()
 SEEDED = generator.seed(FRESH, b"", b"")[2]
 GOOD_PLAN, LONG_PLAN = bytes.fromhex("0307AC0200"), bytes(65_537)
@@ -49,9 +50,9 @@ def written(destination, length):
     return plan.write([destination, 7], length)
 
 
-def opened(tag, out_length, label):
+def opened(key, label, tag, out_length):
     """Opening what stands in SEALED."""
-    return sealing.open_sealed(bytes(32), b"", SEALED, label, tag, out_length)
+    return sealing.open_sealed(key, b"", SEALED, label, tag, out_length)
 
 
 def sealed(key, iv, label, out_length, tag_length):
@@ -65,7 +66,7 @@ ONE_SHOT = {
     "KMAC256": (kmac256, (0, None), [KMAC_KEY, MESSAGE, [(1, 0), (0, 6), (LIMIT + 1, 6)], STRING]),
     "KMACXOF256": (kmacxof256, (0, None), [KMAC_KEY, MESSAGE, OUTPUT, STRING]),
     "seal": (sealed, (0, None, None), [SEALING_KEY, STRING, LABEL, TEXT_OUTPUT, TAG_LENGTH]),
-    "open": (opened, (0, None), [TAG, TEXT_OUTPUT, [(b"label", 0), (b"other", 8), (OVER, 5)]]),
+    "open": (opened, (0, None), [SEALING_KEY, OPEN_LABEL, TAG, TEXT_OUTPUT]),
 }
 STATES = {
     "seed": (partial(generator.seed, SEEDED), (0, SEEDED), [SEED, SHORT]),
@@ -90,14 +91,22 @@ PLANS = {
 }
 
 
+def complaint(expected, answer, blank):
+    """What is wrong with an answer, None if nothing is."""
+    if answer[0] != expected:
+        return f"expected {expected}, answered {answer[0]}"
+    return f"refusal {expected} is not blank" if expected and answer[1:] != blank else None
+
+
 def wrong_calls(title, call, blank, arguments):
-    """(number of calls, a line for each wrong one) over all mixes of the argument's values."""
+    """(number of calls, a line for each wrong one) over all mixes of the arguments' values."""
     mixes, wrong = list(product(*arguments)), []
     for mix in mixes:
-        expected = min((number for _, number in mix if number), default=0)
-        answer = call(*(value for value, _ in mix))
-        if answer[0] != expected or (expected and answer[1:] != blank):
-            wrong.append(f"{title} {[number for _, number in mix]}: answered {answer[0]}, or not blank")
+        numbers = [number for _, number in mix]
+        expected = min(filter(None, numbers), default=0)
+        found = complaint(expected, call(*(value for value, _ in mix)), blank)
+        if found:
+            wrong.append(f"{title}, arguments that call for {numbers}: {found}")
     return len(mixes), wrong
 
 
