@@ -1,0 +1,120 @@
+"""Document 01, "Both sides of the line": every row and every count, asked of the reference.
+
+The walker, writing and the report, which have no cases in vectors/, are asked here too.
+
+    python3 reference/both_sides.py
+
+Prints `N rows agree`, or each difference and exit status 1.
+"""
+
+import sys
+
+import generator
+import plan
+from sealing import seal
+from sp800_185 import cshake256, encode_string, kmacxof256, left_encode, right_encode
+
+PLAN = bytes.fromhex("0307AC0200")
+KEY = bytes(32)
+
+
+def encodings():
+    """P1 to P7."""
+    return [
+        ("P1", left_encode(0), bytes.fromhex("0100")),
+        ("P2", right_encode(0), bytes.fromhex("0001")),
+        ("P3", left_encode(255), bytes.fromhex("01FF")),
+        ("P4", left_encode(256), bytes.fromhex("020100")),
+        ("P5", right_encode(256), bytes.fromhex("010002")),
+        ("P6", encode_string(b"KMAC"), bytes.fromhex("01204B4D4143")),
+        ("P7", left_encode(136), bytes.fromhex("0188")),
+    ]
+
+
+def plans():
+    """P8 to P12, and the reports."""
+    return [
+        ("P8", plan.destination(PLAN, 2), (0, 300)),
+        ("P9", plan.destination(PLAN, 4), (10, 0)),
+        ("P10", plan.destination(PLAN, 0), (10, 0)),
+        ("P11", plan.read(b"\x00"), (0, 0)),
+        ("P12", plan.read(bytes.fromhex("0180808000")), (9, 0)),
+        ("report", plan.report(PLAN), "rows 3\n1 7\n2 300\n3 0\n"),
+        ("report of P12", plan.report(bytes.fromhex("0180808000")), "refused 9\n"),
+        ("report of 65,537 bytes", plan.report(bytes(65_537)), "refused 5\n"),
+    ]
+
+
+def walked(lent, asks):
+    """The (number, destination) of so many asks of a walker."""
+    walk, answers = plan.walker(lent), []
+    for _ in range(asks):
+        number, destination, walk = plan.next_row(walk)
+        answers.append((number, destination))
+    return answers
+
+
+def walks_and_writing():
+    """The walker past the end and on refused plans; writing, and reading what was written."""
+    rows = [0, 127, 128, 16_383, 16_384, 2_097_151]
+    written = plan.write(rows, 1 + 1 + 1 + 2 + 2 + 3 + 3)
+    many = [1] * 4_096
+    return [
+        ("walk", walked(PLAN, 5), [(0, 7), (0, 300), (0, 0), (10, 0), (10, 0)]),
+        ("walk of P12", walked(bytes.fromhex("0180808000"), 2), [(9, 0), (9, 0)]),
+        ("walk of 65,537 bytes", walked(bytes(65_537), 2), [(5, 0), (5, 0)]),
+        ("written", written, (0, bytes.fromhex("06007F8001FF7F808001FFFF7F"))),
+        ("walk of the written", walked(written[1], 6), [(0, value) for value in rows]),
+        ("4,096 rows", plan.write(many, 4_098), (0, b"\x80\x20" + b"\x01" * 4_096)),
+        ("4,096 rows read", plan.read(b"\x80\x20" + b"\x01" * 4_096), (0, 4_096)),
+        ("4,097 rows read", plan.read(b"\x81\x20" + b"\x01" * 4_097), (9, 0)),
+    ]
+
+
+def counts():
+    """The counts of the one-shot calls."""
+    none = b""
+    return [
+        ("32 out", kmacxof256(KEY, none, 32, none)[1], 3),
+        ("none out", kmacxof256(KEY, none, 0, none)[1], 3),
+        ("136 out", kmacxof256(KEY, none, 136, none)[1], 3),
+        ("137 out", kmacxof256(KEY, none, 137, none)[1], 4),
+        ("message of 133", kmacxof256(KEY, bytes(133), 32, none)[1], 3),
+        ("message of 134", kmacxof256(KEY, bytes(134), 32, none)[1], 4),
+        ("customisation of 125", kmacxof256(KEY, none, 32, bytes(125))[1], 3),
+        ("customisation of 126", kmacxof256(KEY, none, 32, bytes(126))[1], 4),
+        ("SHAKE256 of nothing", cshake256(none, 32, none, none)[1], 1),
+        ("sealing nothing", seal(KEY, none, none, none, 0, 32)[1], 6),
+        ("sealing 104", seal(KEY, none, bytes(104), none, 104, 32)[1], 6),
+        ("sealing 105", seal(KEY, none, bytes(105), none, 105, 32)[1], 7),
+    ]
+
+
+def draws():
+    """The counts of draws, and a draw of 20 that is not two of 10."""
+    seeded = generator.seed(generator.Generator(), b"", b"")[2]
+    first = generator.draw(seeded, b"", 10)
+    second = generator.draw(first[3], b"", 10)
+    whole = generator.draw(seeded, b"", 20)
+    return [
+        ("draw of 208", generator.draw(seeded, b"", 208)[1], 3),
+        ("draw of 209", generator.draw(seeded, b"", 209)[1], 6),
+        ("draw of 0", generator.draw(seeded, b"", 0), (0, 0, b"", seeded)),
+        ("additional input of 84", generator.draw(seeded, bytes(84), 208)[:2], (0, 3)),
+        ("additional input of 85", generator.draw(seeded, bytes(85), 208), (3, 0, None, seeded)),
+        ("two draws of 10 are one of 20", first[2] + second[2] == whole[2], False),
+    ]
+
+
+def main():
+    rows = encodings() + plans() + walks_and_writing() + counts() + draws()
+    wrong = [(title, found, expected) for title, found, expected in rows if found != expected]
+    for title, found, expected in wrong:
+        print(f"{title}: expected {expected}, the reference gives {found}")
+    if not wrong:
+        print(f"{len(rows)} rows agree")
+    return 1 if wrong else 0
+
+
+if __name__ == "__main__":
+    sys.exit(main())

@@ -1,0 +1,124 @@
+"""Document 01, "Numbers a caller gets back": every mix of good and bad arguments, asked of the reference.
+
+    python3 reference/refusal_table.py
+
+Each entry's arguments are given with the number that each value calls for, 0 for a good one; the
+answer must be the smallest of them, and a refusal must be blank. Prints `N calls agree`, or each
+difference and exit status 1.
+"""
+
+import sys
+from functools import partial
+from itertools import product
+
+import generator
+import plan
+import sealing
+import sessions
+from sp800_185 import cshake256, kmac256, kmacxof256
+
+LIMIT = 16_777_216
+OVER = bytes(LIMIT + 1)
+STRING = [(b"", 0), (bytes(4_096), 0), (bytes(4_097), 3)]
+NAME = [(b"", 0), (b"kmac", 0), (b"KMAC ", 0), (b"KMA", 0), (bytes(4_096), 0), (bytes(4_097), 3), (b"KMAC", 4)]
+KMAC_KEY = [(b"", 0), (bytes(4_096), 0), (bytes(4_097), 2)]
+SEALING_KEY = [(bytes(32), 0), (b"", 2), (bytes(31), 2), (bytes(33), 2)]
+MESSAGE = [(b"", 0), (b"x", 0), (OVER, 5)]
+OUTPUT = [(0, 0), (1, 0), (LIMIT + 1, 6)]
+SEED = [(b"", 0), (bytes(65_536), 0), (bytes(65_537), 5)]
+SHORT = [(b"", 0), (bytes(84), 0), (bytes(85), 3)]
+LABEL = [(b"", 0), (b"x", 0), (bytes(LIMIT - 3), 5)]  # beside a text of 4 bytes
+TEXT_OUTPUT = [(4, 0), (3, 6), (5, 6)]
+TAG_LENGTH = [(16, 0), (64, 0), (0, 7), (15, 7), (65, 7)]
+SEALED, SEALED_TAG = sealing.seal(bytes(32), b"", b"text", b"label", 4, 64)[2:]
+TAG = [(SEALED_TAG, 0), (SEALED_TAG[:16], 0), (SEALED_TAG[:15], 7), (b"", 7), (bytes(65), 7), (bytes(16), 8)]
+OPEN_LABEL = [(b"label", 0), (b"other", 8), (OVER, 5)]
+FRESH = generator.Generator()
+SEEDED = generator.seed(FRESH, b"", b"")[2]
+GOOD_PLAN, LONG_PLAN = bytes.fromhex("0307AC0200"), bytes(65_537)
+LENT_PLAN = [(GOOD_PLAN, 0), (b"", 9), (b"\x01", 9), (b"\x00\x00", 9), (LONG_PLAN, 5)]
+CHUTE = [(1, 0), (3, 0), (0, 10), (4, 10), (2**32 - 1, 10)]
+NOT_STARTED = sessions.start_cshake256(b"KMAC", b"")[1]
+STARTED = sessions.start_cshake256(b"", b"")[1]
+GIVING = sessions.give(STARTED, 0)[2]
+GAVE_ONE = sessions.give(STARTED, 1)[2]
+FULL = sessions.take(STARTED, bytes(LIMIT))[1]
+
+
+def written(destination, length):
+    """Rows of 3 bytes and 1 byte after the number of rows."""
+    return plan.write([destination, 7], length)
+
+
+def opened(key, label, tag, out_length):
+    """Opening what stands in SEALED."""
+    return sealing.open_sealed(key, b"", SEALED, label, tag, out_length)
+
+
+def sealed(key, iv, label, out_length, tag_length):
+    """Sealing a text of 4 bytes."""
+    return sealing.seal(key, iv, b"text", label, out_length, tag_length)
+
+
+# Entry: (call, the answer after the number of a refusal, the values of its arguments).
+ONE_SHOT = {
+    "cSHAKE256": (cshake256, (0, None), [MESSAGE, OUTPUT, NAME, STRING]),
+    "KMAC256": (kmac256, (0, None), [KMAC_KEY, MESSAGE, [(1, 0), (0, 6), (LIMIT + 1, 6)], STRING]),
+    "KMACXOF256": (kmacxof256, (0, None), [KMAC_KEY, MESSAGE, OUTPUT, STRING]),
+    "seal": (sealed, (0, None, None), [SEALING_KEY, STRING, LABEL, TEXT_OUTPUT, TAG_LENGTH]),
+    "open": (opened, (0, None), [SEALING_KEY, OPEN_LABEL, TAG, TEXT_OUTPUT]),
+}
+STATES = {
+    "seed": (partial(generator.seed, SEEDED), (0, SEEDED), [SEED, SHORT]),
+    "draw": (partial(generator.draw, SEEDED), (0, None, SEEDED), [SHORT, OUTPUT]),
+    "draw, not seeded": (partial(generator.draw, FRESH), (0, None, FRESH), [[(b"", 1), (bytes(85), 1)], [(0, 1)]]),
+    "start of cSHAKE256": (sessions.start_cshake256, (NOT_STARTED,), [NAME, STRING]),
+    "start of KMACXOF256": (sessions.start_kmacxof256, (NOT_STARTED,), [KMAC_KEY, STRING]),
+    "take": (partial(sessions.take, STARTED), (STARTED,), [[*MESSAGE, (bytes(LIMIT), 0)]]),
+    "take, full": (partial(sessions.take, FULL), (FULL,), [[(b"", 0), (b"x", 5)]]),
+    "take, giving": (partial(sessions.take, GIVING), (GIVING,), [[(b"", 1), (b"x", 1), (OVER, 1)]]),
+    "take, not started": (partial(sessions.take, NOT_STARTED), (NOT_STARTED,), [[(b"", 1), (OVER, 1)]]),
+    "give": (partial(sessions.give, STARTED), (None, STARTED), [OUTPUT]),
+    "give, after one": (partial(sessions.give, GAVE_ONE), (None, GAVE_ONE), [[(0, 0), (1, 0), (LIMIT, 6)]]),
+    "give, not started": (partial(sessions.give, NOT_STARTED), (None, NOT_STARTED), [[(0, 0), (1, 6)]]),
+}
+PLANS = {
+    "read": (plan.read, (0,), [LENT_PLAN]),
+    "destination": (plan.destination, (0,), [LENT_PLAN, CHUTE]),
+    "row": (plan.row, (None, 0, 0), [LENT_PLAN, LENT_PLAN, CHUTE]),
+    "write": (written, (None,), [[(2_097_151, 0), (2_097_152, 9)], [(5, 0), (4, 9), (6, 9)]]),
+    "write, too many": (plan.write, (None,), [[([0] * 4_097, 9)], [(4_099, 9)]]),
+}
+
+
+def complaint(expected, answer, blank):
+    """What is wrong with an answer, None if nothing is."""
+    if answer[0] != expected:
+        return f"expected {expected}, answered {answer[0]}"
+    return f"refusal {expected} is not blank" if expected and answer[1:] != blank else None
+
+
+def wrong_calls(title, call, blank, arguments):
+    """(number of calls, a line for each wrong one) over all mixes of the arguments' values."""
+    mixes, wrong = list(product(*arguments)), []
+    for mix in mixes:
+        numbers = [number for _, number in mix]
+        expected = min(filter(None, numbers), default=0)
+        found = complaint(expected, call(*(value for value, _ in mix)), blank)
+        if found:
+            wrong.append(f"{title}, arguments that call for {numbers}: {found}")
+    return len(mixes), wrong
+
+
+def main():
+    results = [wrong_calls(title, *entry) for title, entry in (ONE_SHOT | STATES | PLANS).items()]
+    wrong = [text for _, texts in results for text in texts]
+    for text in wrong:
+        print(text)
+    if not wrong:
+        print(f"{sum(calls for calls, _ in results)} calls agree")
+    return 1 if wrong else 0
+
+
+if __name__ == "__main__":
+    sys.exit(main())
