@@ -1,0 +1,30 @@
+-- left_encode(136), the encoded key and zeros are bytepad of the key (`Strings.padded-lanes`).
+use mathlib.Core.Path.{_≡_}
+use native.Mathlib.Omega.{arith}
+use borrow.Author.Needs.{needs}
+use Rattle.encode.specs.Encode.{encodeString}
+use Rattle.start.proofs.Strings.{padded-lanes, padded-blocks}
+use Rattle.start.proofs.prefix.absorb_key.Statement.{statement}
+use Rattle.start.proofs.prefix.absorb_key.Tie as tie
+
+returns : tie.Need-returns
+returns c =
+    let a = c .before .before .before .before .before .before .before .before .args in
+    let string = c .before .before .absorb-string in
+    let first = c .before .before .before .before .absorb in
+    let lanes = a .lanes .now in
+    let x = encodeString (a .key .now) in
+    record {
+      lanes =
+          padded-lanes lanes (first .last .0) (string .last .0) (c .absorb-zeros .last .0) x (string .result) (first .result) (first .ensures .0)
+          (string .ensures .0) (string .ensures .2) (c .absorb-zeros .ensures);
+      blocks =
+          padded-blocks lanes (first .last .0) (string .last .0) (c .absorb-zeros .last .0) x (string .result) (first .result) (first .ensures .0)
+          (string .ensures .0) (string .ensures .2) (c .absorb-zeros .ensures);
+      few = omega (arith, string .ensures .1);
+    }
+
+pub absorb-key-spec : {M : Type 1} → statement M
+absorb-key-spec =
+    tie.close
+    (tie.spec (λ c. search needs) (λ c κs. search needs) (λ c κs. search needs) (λ c κs. search needs) (λ c. search needs) returns)

@@ -1,0 +1,13 @@
+-- What the private functions of a start do: a string padded to whole blocks and put into the sponge at position 0. No public contract cites it.
+use mathlib.Core.Path.{_≡_}
+use mathlib.Core.List.{List}
+use Prim.Native.Nat.{ℕ, _/_, _≤_}
+use lib.ListN.{length}
+use Rattle.encode.specs.Encode.{bytepad}
+use Rattle.sponge.specs.Running.{running, absorbed}
+
+-- from the lanes a to the lanes b, in r blocks
+pub record Padded (x a b : List ℕ) (r : ℕ) : Type 0 where
+  pub lanes : running b 0 ≡ absorbed (running a 0) (bytepad x 136)
+  pub blocks : r ≡ length (bytepad x 136) / 136
+  pub few : r ≤ 64

@@ -1,0 +1,89 @@
+// How a call or a session starts: the bytes before the message put into the sponge (SP 800-185, 3.3 and 4.3), or the refusal numbers 2, 3 and 4.
+ghost use mathlib.Core.Path.{_≡_};
+ghost use Rattle.calls.specs.Start.{named, keyed, isReserved};
+ghost use Rattle.start.specs.Started.{refused, Starts};
+use prefix::absorb_key;
+use prefix::absorb_name;
+
+mod prefix;
+
+// The sponge after the prefix. The message begins at position 0 of the next block.
+pub struct Started {
+    // 0, or the refusal; then all else is 0.
+    pub number: u8,
+    pub lanes: [u64; 25],
+    // The byte after the message: 1F for SHAKE256, else 04.
+    pub suffix: u8,
+    // The permutations run.
+    pub blocks: usize,
+}
+
+fn refuse(number: u8) -> Started
+    ensures { λ r. ⌜ r ≡ refused number ⌝ }
+{
+    Started {
+        number,
+        lanes: [0u64; 25],
+        suffix: 0,
+        blocks: 0,
+    }
+}
+
+// Whether a name belongs to a function of the standard.
+fn is_reserved(name: &[u8]) -> bool
+    ensures { λ r. ⌜ r ≡ isReserved (now (name .entry)) ⌝ }
+{
+    check::same(name, b"KMAC")
+}
+
+// The start of cSHAKE256.
+pub fn start_named(name: &[u8], customisation: &[u8]) -> Started
+    ensures { λ r. ⌜ Starts (named (now (name .entry)) (now (customisation .entry))) r ⌝ }
+{
+    if 4096 < name.len() {
+        return refuse(3);
+    }
+    if 4096 < customisation.len() {
+        return refuse(3);
+    }
+    if is_reserved(name) {
+        return refuse(4);
+    }
+    let mut lanes = [0u64; 25];
+    if name.len() + customisation.len() == 0 {
+        return Started {
+            number: 0,
+            lanes,
+            suffix: 0x1f,
+            blocks: 0,
+        };
+    }
+    let blocks = absorb_name(&mut lanes, name, customisation);
+    Started {
+        number: 0,
+        lanes,
+        suffix: 0x04,
+        blocks,
+    }
+}
+
+// The start of KMAC256 and KMACXOF256.
+pub fn start_keyed(key: &[u8], customisation: &[u8]) -> Started
+    ensures { λ r. ⌜ Starts (keyed (now (key .entry)) (now (customisation .entry))) r ⌝ }
+{
+    if 4096 < key.len() {
+        return refuse(2);
+    }
+    if 4096 < customisation.len() {
+        return refuse(3);
+    }
+    let mut lanes = [0u64; 25];
+    let name_blocks = absorb_name(&mut lanes, b"KMAC", customisation);
+    let key_blocks = absorb_key(&mut lanes, key);
+    Started {
+        number: 0,
+        lanes,
+        suffix: 0x04,
+        blocks: name_blocks + key_blocks,
+    }
+}
