@@ -1,14 +1,13 @@
 -- A seeding's limits, and all that the first seeding of a generator with nothing to add is fed, by computation.
 use mathlib.Core.Path.{_≡_, refl}
-use mathlib.Core.List.{List, [], _∷_, _++_}
+use mathlib.Core.List.{[], _∷_, _++_}
 use Prim.Native.Nat.{ℕ}
 use lib.ListN.{replicate}
 use Rattle.encode.specs.Digits.{widthIn}
 use Rattle.encode.specs.Padding.{padTo, withLastBit, padded}
 use Rattle.encode.specs.Encode.{bigEndian, leftEncode, encodeString, bytepad}
 use Rattle.calls.specs.Input.{fedBytes}
-use Rattle.calls.specs.Start.{startRefusal}
-use Rattle.calls.specs.Call.{fed, refusal}
+use Rattle.calls.specs.Call.{fed}
 use Rattle.calls.specs.Count.{runs}
 use Rattle.alike.specs.Seeding.{Seeding, seedCall, seedRefusal, seedCount}
 

@@ -1,5 +1,5 @@
 -- Laws on seedings: what their fed bytes fix, and that the call of an accepted one is accepted.
-use mathlib.Core.Path.{_≡_, ap}
+use mathlib.Core.Path.{_≡_}
 use Prim.Native.Nat.{_≤_}
 use native.Mathlib.Omega.{arith}
 use borrow.Author.Tests.{ltb-false, le-ltb}

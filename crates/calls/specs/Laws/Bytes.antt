@@ -2,15 +2,15 @@
 use mathlib.Core.Path.{_≡_}
 use mathlib.Core.Bool.{Bool, true, false, cond}
 use mathlib.Core.List.{List, [], _++_}
-use Prim.Native.Nat.{ℕ, _*_, _≤_, _<_, _^_}
+use Prim.Native.Nat.{ℕ, _*_, _≤_, _<_}
 use native.Mathlib.Omega.{arith}
 use borrow.Author.Tests.{ltb-false}
-use lib.Dec.{ltb, eqb}
+use lib.Dec.{ltb}
 use lib.ListN.{length}
-use Rattle.encode.specs.Encode.{encodeString, rightEncode, bytepad, KMAC}
+use Rattle.encode.specs.Encode.{encodeString, bytepad, KMAC}
 use Rattle.encode.specs.Laws.Bytes.{Bytes, append-bytes, encodeString-bytes, rightEncode-bytes, bytepad-bytes, padded-bytes}
 use Rattle.calls.specs.Limits.{maxKey, maxName, maxCustomisation, maxOutput}
-use Rattle.calls.specs.Input.{isShake, cshakePrefix, cshakeSuffix}
+use Rattle.calls.specs.Input.{isShake, cshakePrefix}
 use Rattle.calls.specs.Start.{Start, named, keyed, startRefusal, startPrefix, startSuffix}
 use Rattle.calls.specs.Call.{Function, cSHAKE256, KMAC256, KMACXOF256, Call, startOf, messageOf, outputOf, outputRefusal, Accepted, fed, ending}
 use Rattle.calls.specs.Laws.Refusal.{test-passed, start-accepted, output-accepted}

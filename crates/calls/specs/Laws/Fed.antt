@@ -1,6 +1,6 @@
 -- Laws on the fed bytes of a call: its start's prefix, its message and its ending, padded; and what KMAC's message fixes.
 use mathlib.Core.Path.{_≡_, refl, ap, _∙_}
-use mathlib.Core.List.{List, [], _++_, append-assoc, append-nil}
+use mathlib.Core.List.{List, _++_, append-assoc, append-nil}
 use Prim.Native.Nat.{ℕ, _*_, _%_}
 use native.Mathlib.Omega.{arith}
 use lib.ListN.{length, length-append}
@@ -9,9 +9,9 @@ use Rattle.encode.specs.Encode.{encodeString, rightEncode, bytepad, KMAC}
 use Rattle.encode.specs.Laws.Encode.{encodeString-free, rightEncode-free, bytepad-free}
 use Rattle.encode.specs.Laws.Lengths.{bytepad-blocks}
 use Rattle.encode.specs.Laws.Padding.{padded-after}
-use Rattle.calls.specs.Input.{fedBytes, cshakePrefix}
+use Rattle.calls.specs.Input.{fedBytes}
 use Rattle.calls.specs.Start.{Start, named, keyed, startPrefix, startSuffix}
-use Rattle.calls.specs.Call.{Function, cSHAKE256, KMAC256, KMACXOF256, Call, cshake256, kmac256, kmacxof256, startOf, messageOf, outputOf, kmacInput, fed, ending, extendable, extendableCall}
+use Rattle.calls.specs.Call.{Function, Call, cshake256, kmac256, kmacxof256, startOf, messageOf, outputOf, kmacInput, fed, ending, extendable, extendableCall}
 use Rattle.calls.specs.Laws.Input.{cshakePrefix-blocks}
 
 kmac-parts : (K X : List ℕ) (L : ℕ) (S : List ℕ) → fedBytes (kmacInput K X L S) ≡ padded (startSuffix (keyed K S)) (startPrefix (keyed K S) ++ X ++ rightEncode L)
