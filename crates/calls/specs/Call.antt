@@ -81,3 +81,15 @@ abbrev pub ending : Function → ℕ → List ℕ
 ending cSHAKE256 n = []
 ending KMAC256 n = rightEncode (8 * n)
 ending KMACXOF256 n = rightEncode 0
+
+-- Running sessions
+
+-- the extendable function that a start begins, in one call or piecemeal
+abbrev pub extendable : Start → Function
+extendable (named N S) = cSHAKE256
+extendable (keyed K S) = KMACXOF256
+
+-- its call over a message, for n bytes
+abbrev pub extendableCall : (s : Start) → List ℕ → ℕ → Call (extendable s)
+extendableCall (named N S) X n = cshake256 X n N S
+extendableCall (keyed K S) X n = kmacxof256 K X n S

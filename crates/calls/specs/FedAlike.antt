@@ -1,9 +1,7 @@
 -- Demand 3 of the three functions: one claim over all pairs of accepted calls, of one function or of two.
 use mathlib.Core.Path.{_≡_}
 use mathlib.Core.Logic.{_↔_}
-use mathlib.Core.List.{List, []}
-use Prim.Native.Nat.{ℕ}
-use Rattle.calls.specs.Call.{Function, cSHAKE256, KMAC256, KMACXOF256, Call, cshake256, kmac256, kmacxof256, Accepted, fed}
+use Rattle.calls.specs.Call.{Function, Call, Accepted, fed}
 use Rattle.calls.specs.Arguments.{arguments}
 use Rattle.calls.specs.Laws.FedAlike.{alike-arguments, arguments-alike}
 

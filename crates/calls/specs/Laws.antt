@@ -4,3 +4,4 @@ pub mod Input
 pub mod Fed
 pub mod FedAlike
 pub mod Runs
+pub mod Bytes

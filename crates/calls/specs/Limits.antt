@@ -12,9 +12,18 @@ maxName = 4096
 abbrev pub maxCustomisation : ℕ
 maxCustomisation = 4096
 
+abbrev pub maxPersonalisation : ℕ
+maxPersonalisation = 84
+
+abbrev pub maxAdditional : ℕ
+maxAdditional = 84
+
 -- number 5
 abbrev pub maxMessage : ℕ
 maxMessage = 16777216
+
+abbrev pub maxSeed : ℕ
+maxSeed = 65536
 
 -- number 6
 abbrev pub maxOutput : ℕ

@@ -5,7 +5,7 @@ use Prim.Native.Nat.{ℕ}
 use lib.ListN.{replicate}
 use Rattle.encode.specs.Digits.{widthIn}
 use Rattle.encode.specs.Padding.{padTo, withLastBit, padded}
-use Rattle.encode.specs.Encode.{bigEndian, leftEncode, rightEncode, encodeString, bytepad, KMAC}
+use Rattle.encode.specs.Encode.{bigEndian, leftEncode, rightEncode, encodeString, bytepad}
 use Rattle.calls.specs.Input.{fedBytes}
 use Rattle.calls.specs.Call.{cshake256, kmac256, kmacxof256, fed}
 

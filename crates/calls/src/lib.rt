@@ -1,2 +1,45 @@
-// The calls of cSHAKE256, KMAC256 and KMACXOF256 as definitions: what each is refused for, what it
-// feeds the permutation and how often that runs. All of it stands in specs/.
+// The calls of cSHAKE256, KMAC256 and KMACXOF256: what each is refused for, what it feeds the
+// permutation and how often that runs. Nearly all of it is definitions, and stands in specs/; the
+// code is the refusal of a start, which one-shot calls and sessions share.
+ghost use mathlib.Core.Path.{_≡_};
+ghost use Rattle.calls.specs.Start.{named, keyed, startRefusal};
+
+// The limits of document 01's table, as specs/Limits.antt has them.
+pub const MAX_KEY: usize = 4096;
+
+pub const MAX_NAME: usize = 4096;
+
+pub const MAX_CUSTOMISATION: usize = 4096;
+
+pub const MAX_MESSAGE: usize = 16777216;
+
+pub const MAX_OUTPUT: usize = 16777216;
+
+// The number that cSHAKE256 with this name and this customisation is refused with, or 0.
+pub fn named_refusal(name: &[u8], customisation: &[u8]) -> u8
+    ensures { λ r. ⌜ r ≡ startRefusal (named (now (name .entry)) (now (customisation .entry))) ⌝ }
+{
+    if MAX_NAME < name.len() {
+        return 3;
+    }
+    if MAX_CUSTOMISATION < customisation.len() {
+        return 3;
+    }
+    if check::same(name, b"KMAC") {
+        return 4;
+    }
+    0
+}
+
+// The number that KMAC256 and KMACXOF256 with this key and this customisation are refused with, or 0.
+pub fn keyed_refusal(key: &[u8], customisation: &[u8]) -> u8
+    ensures { λ r. ⌜ r ≡ startRefusal (keyed (now (key .entry)) (now (customisation .entry))) ⌝ }
+{
+    if MAX_KEY < key.len() {
+        return 2;
+    }
+    if MAX_CUSTOMISATION < customisation.len() {
+        return 3;
+    }
+    0
+}

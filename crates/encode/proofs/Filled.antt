@@ -7,7 +7,6 @@ use native.Mathlib.Numerals.{one-add}
 use native.Mathlib.Omega.{arith}
 use lib.ListN.{length, drop, set, replicate, length-append, length-replicate, length-reverse}
 use lib.Seq.{set-at}
-use Rattle.encode.specs.declared.Encoded.{Encoded}
 use Rattle.encode.specs.Digits.{digits, width}
 use Rattle.encode.specs.Encode.{bigEndian, leftEncode, rightEncode}
 use Rattle.encode.specs.Answer.{encoded, Answers}

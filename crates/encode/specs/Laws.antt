@@ -5,3 +5,4 @@ pub mod Encode
 pub mod Lengths
 pub mod Padding
 pub mod Answer
+pub mod Bytes

@@ -13,7 +13,7 @@ use Rattle.encode.specs.Laws.Codes.{PrefixFree, then}
 use Rattle.encode.specs.Laws.Encode.{encodeString-free, bytepad-free}
 use Rattle.encode.specs.Laws.Padding.{padded-fixes}
 use Rattle.encode.specs.Laws.Lengths.{bytepad-blocks}
-use Rattle.calls.specs.Input.{Input, isShake, cshakePrefix, cshakeSuffix, fedBytes}
+use Rattle.calls.specs.Input.{Input, isShake, cshakePrefix, fedBytes}
 
 isShake-empty : (N S : List ℕ) → isShake N S ≡ true → (N ≡ []) × (S ≡ [])
 isShake-empty [] [] e = (refl, refl)

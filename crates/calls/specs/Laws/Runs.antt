@@ -1,17 +1,17 @@
 -- Laws on the count: the runs of a call by the lengths of its arguments alone.
-use mathlib.Core.Path.{_≡_, refl, _∙_}
+use mathlib.Core.Path.{_≡_, refl}
 use mathlib.Core.Bool.{Bool, true, false, cond}
 use mathlib.Core.List.{List, [], _++_}
-use Prim.Native.Nat.{ℕ, zero, suc, _+_, _*_, _/_}
+use Prim.Native.Nat.{ℕ, _+_, _*_, _/_}
 use native.Mathlib.Omega.{arith}
 use lib.Dec.{eqb}
 use lib.ListN.{length, length-append}
 use Rattle.encode.specs.Digits.{width, widthIn}
 use Rattle.encode.specs.Encode.{encodeString, rightEncode, bytepad, KMAC}
 use Rattle.encode.specs.Laws.Lengths.{blocks, stringLength, length-encodeString, length-rightEncode, length-bytepad, length-padded}
-use Rattle.calls.specs.Input.{isShake, cshakePrefix}
-use Rattle.calls.specs.Start.{Start, named, keyed, startPrefix, startSuffix}
-use Rattle.calls.specs.Call.{Function, cSHAKE256, KMAC256, KMACXOF256, Call, startOf, messageOf, outputOf, fed, ending}
+use Rattle.calls.specs.Input.{cshakePrefix}
+use Rattle.calls.specs.Start.{Start, named, keyed, startPrefix}
+use Rattle.calls.specs.Call.{Function, cSHAKE256, KMAC256, KMACXOF256, Call, startOf, messageOf, outputOf, ending}
 use Rattle.calls.specs.Count.{outputRuns, runs}
 use Rattle.calls.specs.Laws.Input.{isShake-lengths}
 use Rattle.calls.specs.Laws.Fed.{fed-parts}

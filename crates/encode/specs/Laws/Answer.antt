@@ -1,5 +1,5 @@
 -- Laws on the answer of `left_encode` and `right_encode`: its first `len` bytes are the code.
-use mathlib.Core.Path.{_≡_, refl, ap, _∙_}
+use mathlib.Core.Path.{_≡_, refl, ap, _∙_, sym}
 use mathlib.Core.List.{List}
 use Prim.Native.Nat.{ℕ, _-_}
 use lib.ListN.{length, take, replicate}
@@ -15,3 +15,7 @@ answers-code {code} a =
 pub answers-length : {code : List ℕ} {r : Encoded} → Answers code r → r .len ≡ length code
 unfolding encoded
 answers-length a = ap (λ (e : Encoded). e .len) (a .is)
+
+-- so they are as many as a slice of them is asked to have
+pub answers-take : {code : List ℕ} {r : Encoded} → Answers code r → r .len ≡ length (take (r .len) (r .bytes))
+answers-take a = answers-length a ∙ sym (ap length (answers-code a))

@@ -2,7 +2,7 @@
 use mathlib.Core.Path.{_≡_, refl, ap, _∙_}
 use mathlib.Core.Logic.{_↔_}
 use mathlib.Core.Bool.{Bool, true, false}
-use Prim.Native.Nat.{ℕ, zero, suc, _+_, _*_, _/_, _%_, _^_, _≤_, _<_}
+use Prim.Native.Nat.{ℕ, zero, suc, _/_, _^_, _≤_, _<_}
 use native.Mathlib.Nat.{div-lt-iff-lt-mul, div-add-mod', pow-suc, pow-zero, one-mul, div-lt-self, le-antisymm}
 use native.Mathlib.Omega.{arith}
 use borrow.Author.Tests.{ltb-true, ltb-false}
@@ -68,9 +68,9 @@ module _ (b : ℕ) (base : 2 ≤ b) where
   width-fewest f n zero p h = omega arith
   width-fewest f n (suc k) p h = fewest f n k h
 
-  -- any fuel that is enough gives the same width
-  fuel : (f g n : ℕ) → n ≤ f → n ≤ g → widthIn b f n ≡ widthIn b g n
-  fuel f g n hf hg =
+  -- any number of steps that is enough gives the same width
+  enough : (f g n : ℕ) → n ≤ f → n ≤ g → widthIn b f n ≡ widthIn b g n
+  enough f g n hf hg =
       le-antisymm (width-fewest f n (widthIn b g n) (width-pos g n) (width-holds g n hg))
       (width-fewest g n (widthIn b f n) (width-pos f n) (width-holds f n hf))
 
@@ -84,4 +84,4 @@ module _ (b : ℕ) (base : 2 ≤ b) where
       step (λ w. w ≡ suc (width b (suc f / b))) f (suc f) (λ p. omega arith)
       (λ big.
       let less : suc f / b < suc f = div-lt-self (omega arith) base in
-      ap suc (fuel f (suc f / b) (suc f / b) (omega arith) (omega arith)))
+      ap suc (enough f (suc f / b) (suc f / b) (omega arith) (omega arith)))

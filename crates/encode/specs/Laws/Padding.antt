@@ -1,7 +1,7 @@
 -- Laws on padding: it stands after the message, whole blocks before it stay as they are, and it fixes the suffix byte and the message.
-use mathlib.Core.Path.{_≡_, refl, ap, _∙_, sym}
+use mathlib.Core.Path.{_≡_, refl, _∙_, sym}
 use mathlib.Core.List.{List, [], _∷_, _++_, append-assoc}
-use Prim.Native.Nat.{ℕ, zero, suc, _+_, _-_, _%_, _<_, _≤_}
+use Prim.Native.Nat.{ℕ, zero, suc, _+_, _-_, _%_, _<_}
 use native.Mathlib.Nat.{zero-add, suc-add}
 use native.Mathlib.Omega.{arith}
 use lib.Bits.{bitXor, xor-comm, xor-shifted}
@@ -9,7 +9,6 @@ use lib.ListN.{length, getD, set, replicate, length-set, length-append, length-r
 use lib.Seq.{getD-set-same, set-set, set-getD, getD-append-add}
 use Rattle.encode.specs.Padding.{shortfall, padTo, withLastBit, padded, padding}
 use Rattle.encode.specs.Laws.Codes.{cut-end}
-use Rattle.encode.specs.Laws.Lengths.{length-padTo}
 
 -- Where the padding stands
 
