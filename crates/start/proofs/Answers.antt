@@ -4,23 +4,41 @@ use mathlib.Core.Bool.{Bool, true, false}
 use mathlib.Core.List.{List, [], _∷_, _++_}
 use Prim.Native.Nat.{ℕ, zero, suc, _+_, _/_, _%_, _≤_}
 use native.Mathlib.Omega.{arith}
-use borrow.Author.Tests.{ne-eqb, eq-eqb}
+use borrow.Author.Tests.{ne-eqb, eq-eqb, ltb-false}
+use lib.Dec.{ltb}
 use lib.ListN.{length, replicate, length-append}
 use Rattle.encode.specs.Encode.{encodeString, bytepad, KMAC}
 use Rattle.encode.specs.Laws.Lengths.{bytepad-blocks}
 use Rattle.calls.specs.Input.{isShake, cshakePrefix, cshakeSuffix}
 use Rattle.calls.specs.Start.{Start, named, keyed, startRefusal, startPrefix, startSuffix}
 use Rattle.calls.specs.Laws.Input.{isShake-lengths}
+use Rattle.calls.specs.Laws.Refusal.{test-passed}
 use Rattle.sponge.specs.Running.{Running, running, fresh, absorbed}
 use Rattle.sponge.proofs.Absorbing.{absorbed-append}
 use Rattle.start.specs.declared.Started.{Started}
 use Rattle.start.specs.Started.{accepted, refused, startedWith, started, Starts}
 use Rattle.start.specs.Prefix.{Padded}
 
-pub refused-starts : (s : Start) (k : ℕ) (r : Started) → startRefusal s ≡ suc k → r ≡ refused (suc k) → Starts s r
+pub refused-starts : (s : Start) (k : ℕ) (r : Started) → k ≡ startRefusal s → (k ≡ 0 → ⊥) → r ≡ refused k → Starts s r
 unfolding started
-refused-starts s k r e is =
-    record { is = is ∙ sym (ap (λ (n : ℕ). startedWith n s) e); few = omega (arith, ap (λ (t : Started). t .blocks) is) }
+refused-starts s zero r e some is = absurd (some refl)
+refused-starts s (suc k) r e some is =
+    record { is = is ∙ ap (λ (n : ℕ). startedWith n s) e; few = omega (arith, ap (λ (t : Started). t .blocks) is) }
+
+-- an accepted start keeps the limits
+pub named-lengths : (N S : List ℕ) → startRefusal (named N S) ≡ 0 → (length N ≤ 4096) × (length S ≤ 4096)
+unfolding startRefusal
+named-lengths N S e =
+    let n = test-passed (ltb 4096 (length N)) 2 _ e in
+    let s = test-passed (ltb 4096 (length S)) 2 _ (n .1) in
+    (ltb-false 4096 (length N) (n .0), ltb-false 4096 (length S) (s .0))
+
+pub keyed-lengths : (K S : List ℕ) → startRefusal (keyed K S) ≡ 0 → (length K ≤ 4096) × (length S ≤ 4096)
+unfolding startRefusal
+keyed-lengths K S e =
+    let k = test-passed (ltb 4096 (length K)) 1 _ e in
+    let s = test-passed (ltb 4096 (length S)) 2 _ (k .1) in
+    (ltb-false 4096 (length K) (k .0), ltb-false 4096 (length S) (s .0))
 
 accepted-starts : (s : Start) (r : Started) → startRefusal s ≡ 0 → r ≡ accepted s → r .blocks ≤ 128 → Starts s r
 unfolding started

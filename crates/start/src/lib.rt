@@ -1,6 +1,6 @@
 // How a call or a session starts: the bytes before the message put into the sponge (SP 800-185, 3.3 and 4.3), or the refusal numbers 2, 3 and 4.
 ghost use mathlib.Core.Path.{_≡_};
-ghost use Rattle.calls.specs.Start.{named, keyed, isReserved};
+ghost use Rattle.calls.specs.Start.{named, keyed};
 ghost use Rattle.start.specs.Started.{refused, Starts};
 use prefix::absorb_key;
 use prefix::absorb_name;
@@ -29,25 +29,13 @@ fn refuse(number: u8) -> Started
     }
 }
 
-// Whether a name belongs to a function of the standard.
-fn is_reserved(name: &[u8]) -> bool
-    ensures { λ r. ⌜ r ≡ isReserved (now (name .entry)) ⌝ }
-{
-    check::same(name, b"KMAC")
-}
-
 // The start of cSHAKE256.
 pub fn start_named(name: &[u8], customisation: &[u8]) -> Started
     ensures { λ r. ⌜ Starts (named (now (name .entry)) (now (customisation .entry))) r ⌝ }
 {
-    if 4096 < name.len() {
-        return refuse(3);
-    }
-    if 4096 < customisation.len() {
-        return refuse(3);
-    }
-    if is_reserved(name) {
-        return refuse(4);
+    let number = calls::named_refusal(name, customisation);
+    if number != 0 {
+        return refuse(number);
     }
     let mut lanes = [0u64; 25];
     if name.len() + customisation.len() == 0 {
@@ -71,11 +59,9 @@ pub fn start_named(name: &[u8], customisation: &[u8]) -> Started
 pub fn start_keyed(key: &[u8], customisation: &[u8]) -> Started
     ensures { λ r. ⌜ Starts (keyed (now (key .entry)) (now (customisation .entry))) r ⌝ }
 {
-    if 4096 < key.len() {
-        return refuse(2);
-    }
-    if 4096 < customisation.len() {
-        return refuse(3);
+    let number = calls::keyed_refusal(key, customisation);
+    if number != 0 {
+        return refuse(number);
     }
     let mut lanes = [0u64; 25];
     let name_blocks = absorb_name(&mut lanes, b"KMAC", customisation);
