@@ -1,0 +1,141 @@
+-- From the tests on the way and what `run` left to what a call answers: the laws are over any call.
+use mathlib.Core.Path.{_≡_, refl, sym, ap, ap₂, _∙_, subst}
+use mathlib.Core.Bool.{Bool, true, false, cond}
+use mathlib.Core.List.{List, _++_, append-assoc}
+use Prim.Native.Nat.{ℕ, zero, suc, _+_, _*_, _/_, _%_, _≤_, _<_}
+use native.Mathlib.Nat.{mod-eq-of-lt}
+use native.Mathlib.Omega.{arith}
+use borrow.Author.Tests.{ltb-false}
+use lib.Dec.{ltb, eqb}
+use lib.ListN.{length, replicate}
+use Rattle.encode.specs.Padding.{padded}
+use Rattle.calls.specs.Start.{Start, keyed, startRefusal, startPrefix, startSuffix}
+use Rattle.calls.specs.Call.{Function, Call, startOf, messageOf, outputOf, messageRefusal, outputRefusal, firstOf, refusal, fed, ending, KMAC256, KMACXOF256, kmac256}
+use Rattle.calls.specs.Count.{outputRuns, count, runs}
+use Rattle.calls.specs.Laws.Refusal.{test-passed, firstOf-passed, count-refused, count-accepted}
+use Rattle.calls.specs.Laws.Fed.{fed-parts, startPrefix-blocks}
+use Rattle.calls.specs.Laws.Runs.{startBlocks, length-startPrefix, length-ending, runs-by-lengths}
+use Rattle.sponge.specs.Sponge.{sponge}
+use Rattle.sponge.specs.Running.{Running, running, fresh, absorbed, finished, squeezed}
+use Rattle.sponge.proofs.Absorbing.{absorbed-append}
+use Rattle.sponge.proofs.Whole.{absorbed-position, squeezed-whole}
+use Rattle.start.specs.declared.Started.{Started}
+use Rattle.start.specs.Started.{accepted, startedWith, started, Starts}
+use Rattle.hash.specs.declared.Outcome.{Outcome}
+use Rattle.hash.specs.Outcome.{outcome, writtenWith, written}
+use Rattle.hash.specs.Private.{Ran}
+
+-- ---- a start's number, and what an accepted one leaves
+
+started-number : (k : ℕ) (s : Start) → startedWith k s .number ≡ k
+started-number zero s = refl
+started-number (suc k) s = refl
+
+pub start-number : (s : Start) (r : Started) → Starts s r → r .number ≡ startRefusal s
+unfolding started
+start-number s r h = ap (λ (t : Started). t .number) (h .is) ∙ started-number (startRefusal s) s
+
+start-is : (s : Start) (r : Started) → Starts s r → startRefusal s ≡ 0 → r ≡ accepted s
+unfolding started
+start-is s r h e = h .is ∙ ap (λ (k : ℕ). startedWith k s) e
+
+-- the prefix is whole blocks: the sponge stands at position 0
+start-lanes : (s : Start) → running (accepted s .lanes) 0 ≡ absorbed fresh (startPrefix s)
+start-lanes s =
+    let p : absorbed fresh (startPrefix s) .position ≡ 0
+    = absorbed-position (startPrefix s) (replicate 25 0) 0 (omega arith) ∙ omega (arith, startPrefix-blocks s) in
+    ap (running (accepted s .lanes)) (sym p)
+
+-- ---- refusals
+
+abbrev refusedWith : ℕ → Outcome
+refusedWith k = record { number = k; runs = 0 }
+
+pub refused : {f : Function} (c : Call f) (k : ℕ) (before : List ℕ) → refusal c ≡ k → (k ≡ 0 → ⊥) → (refusedWith k ≡ outcome c) × (before ≡ written c before)
+unfolding outcome written
+refused c zero before e some = absurd (some refl)
+refused c (suc k) before e some =
+    let none : count c ≡ 0 = count-refused c (λ z. some (sym e ∙ z)) in
+    (sym (λ i. record { number = e i; runs = none i }), sym (ap (λ (n : ℕ). writtenWith n (sponge (fed c) (outputOf c)) before) e))
+
+pub first-some : (k later : ℕ) → (k ≡ 0 → ⊥) → k ≡ firstOf k later
+first-some zero later some = absurd (some refl)
+first-some (suc k) later some = refl
+
+-- the number that `first_refusal` makes of the start's own and the lengths
+abbrev first : {f : Function} → Call f → Started → ℕ
+first c s = firstOf (s .number) (firstOf (messageRefusal (length (messageOf c))) (outputRefusal KMACXOF256 (outputOf c)))
+
+module _ {f : Function} (c : Call f) (s : Started) (h : Starts (startOf c) s) where
+  -- it is the call's for a function that accepts the same outputs as KMACXOF256
+  pub numbered : outputRefusal f (outputOf c) ≡ outputRefusal KMACXOF256 (outputOf c) → refusal c ≡ first c s
+  unfolding refusal
+  numbered e = ap₂ (λ (k o : ℕ). firstOf k (firstOf (messageRefusal (length (messageOf c))) o)) (sym (start-number (startOf c) s h)) e
+
+  -- where it is 0 the start is accepted and the lengths keep the limits
+  pub passed : first c s ≡ 0 → (startRefusal (startOf c) ≡ 0) × (length (messageOf c) ≤ 16777216) × (outputOf c ≤ 16777216)
+  passed e =
+      let start = firstOf-passed (s .number) _ e in
+      let lengths = firstOf-passed (messageRefusal (length (messageOf c))) _ (start .1) in (
+        sym (start-number (startOf c) s h) ∙ start .0,
+        ltb-false 16777216 (length (messageOf c)) (test-passed (ltb 16777216 (length (messageOf c))) 4 0 (lengths .0) .0),
+        ltb-false 16777216 (outputOf c) (test-passed (ltb 16777216 (outputOf c)) 5 0 (lengths .1) .0),
+      )
+
+-- KMAC256 refuses an empty output too, where nothing else is refused
+later : (k m y : ℕ) (t : Bool) → (firstOf k (firstOf m (cond t 6 0)) ≡ 0 → ⊥) → firstOf k (firstOf m (cond t 6 y)) ≡ firstOf k (firstOf m (cond t 6 0))
+later (suc k) m y t some = refl
+later zero (suc m) y t some = refl
+later zero zero y true some = refl
+later zero zero y false some = absurd (some refl)
+
+pub kmac-numbered : (c : Call KMAC256) (s : Started) → Starts (startOf c) s → (first c s ≡ 0 → ⊥) → refusal c ≡ first c s
+unfolding refusal
+kmac-numbered (kmac256 K X n S) s h some =
+    ap (λ (k : ℕ). firstOf k (firstOf (messageRefusal (length X)) (outputRefusal KMAC256 n))) (sym (start-number (keyed K S) s h))
+    ∙ later (s .number) (messageRefusal (length X)) (cond (eqb n 0) 6 0) (ltb 16777216 n) some
+
+-- ---- what `run` does, call by call
+
+pub chained : (l a b d m e : List ℕ) (p q suffix n : ℕ) → running a p ≡ absorbed (running l 0) m → p < 136 → running b q ≡ absorbed (running a (p % 136)) e
+    → q < 136 → running d 0 ≡ finished suffix (running b (q % 136))
+    → squeezed n (running d 0) ≡ squeezed n (finished suffix (absorbed (running l 0) (m ++ e)))
+chained l a b d m e p q suffix n first hp second hq end =
+    ap (squeezed n)
+    (end
+    ∙ ap (λ (k : ℕ). finished suffix (running b k)) (mod-eq-of-lt hq)
+    ∙ ap (finished suffix)
+    (second
+    ∙ ap (λ (k : ℕ). absorbed (running a k) e) (mod-eq-of-lt hp)
+    ∙ ap (λ (u : Running). absorbed u e) first
+    ∙ sym (absorbed-append (running l 0) m e)))
+
+-- ---- an accepted call
+
+module _ {f : Function} (c : Call f) (s : Started) (e out : List ℕ) (r : ℕ) (h : Starts (startOf c) s) (z : startRefusal (startOf c) ≡ 0) (is : e ≡ ending f (outputOf c))
+    (ran : Ran s (messageOf c) e out (outputOf c) r) where
+  output : out ≡ sponge (fed c) (outputOf c)
+  output =
+      let t : Start = startOf c in
+      let m : List ℕ = messageOf c ++ ending f (outputOf c) in
+      let end : (u : Started) → List ℕ = λ u. squeezed (outputOf c) (finished (u .suffix) (absorbed (running (u .lanes) 0) m)) in
+      ran .output
+      ∙ ap (λ (l : List ℕ). squeezed (outputOf c) (finished (s .suffix) (absorbed (running (s .lanes) 0) (messageOf c ++ l)))) is
+      ∙ ap end (start-is t s h z)
+      ∙ ap (λ (u : Running). squeezed (outputOf c) (finished (startSuffix t) (absorbed u m))) (start-lanes t)
+      ∙ ap (λ (u : Running). squeezed (outputOf c) (finished (startSuffix t) u)) (sym (absorbed-append fresh (startPrefix t) m))
+      ∙ squeezed-whole (startSuffix t) (startPrefix t ++ m) (outputOf c)
+      ∙ ap (λ (l : List ℕ). sponge (padded (startSuffix t) l) (outputOf c)) (sym (append-assoc (startPrefix t) (messageOf c) (ending f (outputOf c))))
+      ∙ ap (λ (l : List ℕ). sponge l (outputOf c)) (sym (fed-parts c))
+
+  counted : r ≡ runs c
+  counted =
+      let b : s .blocks ≡ length (startPrefix (startOf c)) / 136 = ap (λ (u : Started). u .blocks) (start-is (startOf c) s h z) in
+      let n : length e ≡ length (ending f (outputOf c)) = ap length is in
+      omega (arith, ran .runs, runs-by-lengths c, length-startPrefix (startOf c), length-ending f (outputOf c))
+
+  pub answered : refusal c ≡ 0 → (before : List ℕ) → (record { number = 0; runs = r } ≡ outcome c) × (out ≡ written c before)
+  unfolding outcome written
+  answered ok before =
+      let n : r ≡ count c = counted ∙ sym (count-accepted c ok) in
+      (sym (λ i. record { number = ok i; runs = sym n i }), output ∙ sym (ap (λ (k : ℕ). writtenWith k (sponge (fed c) (outputOf c)) before) ok))
