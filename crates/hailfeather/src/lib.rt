@@ -1,0 +1,73 @@
+// The library as C links it: each function is one entry of the crates below, under a name `hf_..`. A `&[u8]` passes as a pointer and a length.
+ghost use mathlib.Core.Path.{_≡_};
+ghost use lib.ListN.{length};
+ghost use Rattle.keccak.specs.Fips202.{keccakP};
+ghost use Rattle.calls.specs.Call.{cshake256, kmac256, kmacxof256};
+ghost use Rattle.hash.specs.Outcome.{outcome, written};
+ghost use Rattle.hailfeather.specs.Exported.{exported};
+
+// The number that a call is answered with, and the permutations it took.
+#[repr(C)]
+pub struct HfOutcome {
+    pub runs: usize,
+    pub number: u8,
+}
+
+// Keccak-p[1600, 24] of 25 lanes where they stand.
+#[no_mangle]
+pub extern "C" fn hf_keccak_p(lanes: &mut [u64; 25])
+    ensures { λ r. ⌜ now (lanes .exit) ≡ keccakP (now (lanes .entry)) ⌝ }
+{
+    keccak::permute(lanes);
+}
+
+#[no_mangle]
+pub extern "C" fn hf_cshake256(
+    name: &[u8],
+    customisation: &[u8],
+    message: &[u8],
+    out: &mut [u8],
+) -> HfOutcome
+    ensures { λ r. ⌜ (r ≡ exported (outcome (cshake256 (now (message .entry)) (length (now (out .entry))) (now (name .entry)) (now (customisation .entry)))))
+        × (now (out .exit) ≡ written (cshake256 (now (message .entry)) (length (now (out .entry))) (now (name .entry)) (now (customisation .entry))) (now (out .entry))) ⌝ }
+{
+    let outcome = hash::cshake256(name, customisation, message, out);
+    HfOutcome {
+        runs: outcome.runs,
+        number: outcome.number,
+    }
+}
+
+#[no_mangle]
+pub extern "C" fn hf_kmac256(
+    key: &[u8],
+    customisation: &[u8],
+    message: &[u8],
+    out: &mut [u8],
+) -> HfOutcome
+    ensures { λ r. ⌜ (r ≡ exported (outcome (kmac256 (now (key .entry)) (now (message .entry)) (length (now (out .entry))) (now (customisation .entry)))))
+        × (now (out .exit) ≡ written (kmac256 (now (key .entry)) (now (message .entry)) (length (now (out .entry))) (now (customisation .entry))) (now (out .entry))) ⌝ }
+{
+    let outcome = hash::kmac256(key, customisation, message, out);
+    HfOutcome {
+        runs: outcome.runs,
+        number: outcome.number,
+    }
+}
+
+#[no_mangle]
+pub extern "C" fn hf_kmacxof256(
+    key: &[u8],
+    customisation: &[u8],
+    message: &[u8],
+    out: &mut [u8],
+) -> HfOutcome
+    ensures { λ r. ⌜ (r ≡ exported (outcome (kmacxof256 (now (key .entry)) (now (message .entry)) (length (now (out .entry))) (now (customisation .entry)))))
+        × (now (out .exit) ≡ written (kmacxof256 (now (key .entry)) (now (message .entry)) (length (now (out .entry))) (now (customisation .entry))) (now (out .entry))) ⌝ }
+{
+    let outcome = hash::kmacxof256(key, customisation, message, out);
+    HfOutcome {
+        runs: outcome.runs,
+        number: outcome.number,
+    }
+}

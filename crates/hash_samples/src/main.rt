@@ -1,0 +1,99 @@
+// NIST's published samples of cSHAKE256, KMAC256 and KMACXOF256, SHAKE256 of the empty message, and document 01's table of counts. The expected output
+// is that of reference/hash_samples.py, which takes the samples from vectors/nist-samples.txt.
+use hash::Outcome;
+use testing::first;
+use testing::print;
+use testing::print_bytes;
+use testing::print_number;
+
+const SIGNATURE: [u8; 15] = *b"Email Signature";
+
+const APPLICATION: [u8; 21] = *b"My Tagged Application";
+
+fn print_sample(label: &[u8], out: &[u8]) {
+    print(label);
+    print(b"\n");
+    print_bytes(out);
+}
+
+fn cshake_samples(data: &[u8]) {
+    let mut out = [0u8; 64];
+    hash::cshake256(b"", &SIGNATURE, first(data, 4), &mut out);
+    print_sample(b"cSHAKE256 sample 3", &out);
+    hash::cshake256(b"", &SIGNATURE, data, &mut out);
+    print_sample(b"cSHAKE256 sample 4", &out);
+    let mut short = [0u8; 32];
+    hash::cshake256(b"", b"", b"", &mut short);
+    print_sample(b"SHAKE256 of the empty message", &short);
+}
+
+fn kmac_samples(key: &[u8], data: &[u8]) {
+    let mut out = [0u8; 64];
+    hash::kmac256(key, &APPLICATION, first(data, 4), &mut out);
+    print_sample(b"KMAC256 sample 4", &out);
+    hash::kmac256(key, b"", data, &mut out);
+    print_sample(b"KMAC256 sample 5", &out);
+    hash::kmac256(key, &APPLICATION, data, &mut out);
+    print_sample(b"KMAC256 sample 6", &out);
+}
+
+fn kmacxof_samples(key: &[u8], data: &[u8]) {
+    let mut out = [0u8; 64];
+    hash::kmacxof256(key, &APPLICATION, first(data, 4), &mut out);
+    print_sample(b"KMACXOF256 sample 4", &out);
+    hash::kmacxof256(key, b"", data, &mut out);
+    print_sample(b"KMACXOF256 sample 5", &out);
+    hash::kmacxof256(key, &APPLICATION, data, &mut out);
+    print_sample(b"KMACXOF256 sample 6", &out);
+}
+
+fn print_outcome(outcome: Outcome) {
+    print_number(outcome.number as u64);
+    print(b" ");
+    print_number(outcome.runs as u64);
+    print(b"\n");
+}
+
+// Number and runs of KMACXOF256 for an output of n bytes, 200 at most.
+fn count(key: &[u8], customisation: &[u8], message: &[u8], n: usize) {
+    let mut out = [0u8; 200];
+    if n <= 200 {
+        print_outcome(hash::kmacxof256(key, customisation, message, &mut out[..n]));
+    }
+}
+
+// KMACXOF256 with a key of 32 bytes: both sides of each edge of the table.
+fn counts(key: &[u8], data: &[u8]) {
+    print(b"counts\n");
+    count(key, b"", b"", 32);
+    count(key, b"", b"", 0);
+    count(key, b"", b"", 136);
+    count(key, b"", b"", 137);
+    count(key, b"", first(data, 133), 32);
+    count(key, b"", first(data, 134), 32);
+    count(key, first(data, 125), b"", 32);
+    count(key, first(data, 126), b"", 32);
+}
+
+// Names beside the one that is refused.
+fn names(data: &[u8]) {
+    let mut out = [0u8; 1];
+    print(b"names\n");
+    print_outcome(hash::cshake256(b"KMAC", b"", data, &mut out));
+    print_outcome(hash::cshake256(b"kmac", b"", data, &mut out));
+    print_outcome(hash::cshake256(b"KMAC ", b"", data, &mut out));
+    print_outcome(hash::cshake256(b"KMA", b"C", data, &mut out));
+    print_outcome(hash::kmac256(b"", b"", data, &mut out[..0]));
+}
+
+fn main() {
+    let mut data = [0u8; 200];
+    testing::fill(&mut data, 0, 1);
+    let mut key = [0u8; 32];
+    testing::fill(&mut key, 0x40, 1);
+    cshake_samples(&data);
+    kmac_samples(&key, &data);
+    kmacxof_samples(&key, &data);
+    counts(&key, &data);
+    names(&data);
+}

@@ -1,0 +1,70 @@
+// What the gate's programs share: patterned data, parts of a slice, a checksum, and printing.
+ghost use mathlib.Core.Path.{_≡_};
+ghost use lib.ListN.{length, take};
+ghost use lib.Seq.{sets};
+ghost use Rattle.testing.specs.Data.{addNumber, addBytes, pattern};
+use libc::STDOUT_FILENO;
+
+fn wide(byte: u8) -> u64
+    ensures { λ r. ⌜ r ≡ byte ⌝ }
+{
+    byte as u64
+}
+
+// `bytes` filled with first, first + step, first + 2 step, .. modulo 256.
+pub fn fill(bytes: &mut [u8], first: u8, step: u8)
+    ensures { λ r. ⌜ now (bytes .exit) ≡ sets (now (bytes .entry)) 0 (pattern (length (now (bytes .entry))) first step) ⌝ }
+{
+    let mut next = wide(first);
+    let mut i = 0;
+    while i < bytes.len() {
+        bytes[i] = (next % 256) as u8;
+        next = (next + wide(step)) % 256;
+        i += 1;
+    }
+}
+
+// The first n bytes, or all where there are fewer.
+pub fn first(bytes: &[u8], n: usize) -> &[u8]
+    ensures { λ r. ⌜ now r ≡ take n (now (bytes .entry)) ⌝ }
+{
+    if n <= bytes.len() { &bytes[..n] } else { bytes }
+}
+
+// The checksum of what came before, taken on by one number; below 2^32 - 5, the modulus.
+pub fn add_number(sum: u64, number: u64) -> u64
+    ensures { λ r. ⌜ r ≡ addNumber sum number ⌝ }
+{
+    ((sum % 4294967291) * 257 + number % 4294967291 + 1) % 4294967291
+}
+
+// The checksum taken on by bytes, one after the other.
+pub fn add_bytes(sum: u64, bytes: &[u8]) -> u64
+    ensures { λ r. ⌜ r ≡ addBytes sum (now (bytes .entry)) ⌝ }
+{
+    let mut all = sum;
+    let mut i = 0;
+    while i < bytes.len() {
+        all = add_number(all, wide(bytes[i]));
+        i += 1;
+    }
+    all
+}
+
+// Bytes in hexadecimal, and a line feed.
+pub fn print_bytes(bytes: &[u8]) {
+    let mut i = 0;
+    while i < bytes.len() {
+        io::print_hex(STDOUT_FILENO, wide(bytes[i]), 2);
+        i += 1;
+    }
+    print(b"\n");
+}
+
+pub fn print(text: &[u8]) {
+    io::write_all(STDOUT_FILENO, text);
+}
+
+pub fn print_number(number: u64) {
+    io::print_decimal(STDOUT_FILENO, number);
+}
