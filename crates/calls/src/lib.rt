@@ -1,8 +1,10 @@
 // The calls of cSHAKE256, KMAC256 and KMACXOF256: what each is refused for, what it feeds the
 // permutation and how often that runs. Nearly all of it is definitions, and stands in specs/; the
-// code is the refusal of a start, which one-shot calls and sessions share.
+// code is the refusal of a start, which one-shot calls and sessions share, and the output's share of
+// the count.
 ghost use mathlib.Core.Path.{_≡_};
 ghost use Rattle.calls.specs.Start.{named, keyed, startRefusal};
+ghost use Rattle.calls.specs.Count.{outputRuns};
 
 // The limits of document 01's table, as specs/Limits.antt has them.
 pub const MAX_KEY: usize = 4096;
@@ -42,4 +44,11 @@ pub fn keyed_refusal(key: &[u8], customisation: &[u8]) -> u8
         return 3;
     }
     0
+}
+
+// The share that an output of this many bytes has in the permutations.
+pub fn output_runs(bytes: usize) -> usize
+    ensures { λ r. ⌜ r ≡ outputRuns bytes ⌝ }
+{
+    if bytes == 0 { 0 } else { (bytes - 1) / 136 }
 }

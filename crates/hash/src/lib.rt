@@ -2,11 +2,11 @@
 ghost use mathlib.Core.Path.{_≡_};
 ghost use lib.ListN.{length};
 ghost use Rattle.calls.specs.Call.{KMACXOF256, cshake256, kmac256, kmacxof256, messageRefusal, outputRefusal, firstOf};
-ghost use Rattle.calls.specs.Count.{outputRuns};
 ghost use Rattle.hash.specs.Outcome.{outcome, written};
 ghost use Rattle.hash.specs.Private.{Small, Ran};
 use calls::MAX_MESSAGE;
 use calls::MAX_OUTPUT;
+use calls::output_runs;
 use sponge::absorb;
 use sponge::finish;
 use sponge::squeeze;
@@ -16,13 +16,6 @@ use start::Started;
 pub struct Outcome {
     pub number: u8,
     pub runs: usize,
-}
-
-// The output's share of the runs, in an output of this many bytes.
-fn output_runs(bytes: usize) -> usize
-    ensures { λ r. ⌜ r ≡ outputRuns bytes ⌝ }
-{
-    if bytes == 0 { 0 } else { (bytes - 1) / 136 }
 }
 
 // The number for a start's own number, a message and an extendable output of these lengths: the smallest that applies.
