@@ -1,50 +1,27 @@
 -- From the tests on the way and what `run` left to what a call answers: the laws are over any call.
 use mathlib.Core.Path.{_≡_, refl, sym, ap, ap₂, _∙_, subst}
 use mathlib.Core.Bool.{Bool, true, false, cond}
-use mathlib.Core.List.{List, _++_, append-assoc}
+use mathlib.Core.List.{List, _++_}
 use Prim.Native.Nat.{ℕ, zero, suc, _+_, _*_, _/_, _%_, _≤_, _<_}
 use native.Mathlib.Nat.{mod-eq-of-lt}
 use native.Mathlib.Omega.{arith}
 use borrow.Author.Tests.{ltb-false}
 use lib.Dec.{ltb, eqb}
-use lib.ListN.{length, replicate}
-use Rattle.encode.specs.Padding.{padded}
-use Rattle.calls.specs.Start.{Start, keyed, startRefusal, startPrefix, startSuffix}
+use lib.ListN.{length}
+use Rattle.calls.specs.Start.{keyed, startRefusal}
 use Rattle.calls.specs.Call.{Function, Call, startOf, messageOf, outputOf, messageRefusal, outputRefusal, firstOf, refusal, fed, ending, KMAC256, KMACXOF256, kmac256}
 use Rattle.calls.specs.Count.{outputRuns, count, runs}
 use Rattle.calls.specs.Laws.Refusal.{test-passed, firstOf-passed, count-refused, count-accepted}
-use Rattle.calls.specs.Laws.Fed.{fed-parts, startPrefix-blocks}
-use Rattle.calls.specs.Laws.Runs.{startBlocks, length-startPrefix, length-ending, runs-by-lengths}
+use Rattle.calls.specs.Laws.Runs.{length-ending, runs-by-lengths}
 use Rattle.sponge.specs.Sponge.{sponge}
 use Rattle.sponge.specs.Running.{Running, running, fresh, absorbed, finished, squeezed}
 use Rattle.sponge.proofs.Absorbing.{absorbed-append}
-use Rattle.sponge.proofs.Whole.{absorbed-position, squeezed-whole}
 use Rattle.start.specs.declared.Started.{Started}
-use Rattle.start.specs.Started.{accepted, startedWith, started, Starts}
+use Rattle.start.specs.Started.{Starts}
+use Rattle.start.proofs.Calls.{start-number, start-blocks, call-output}
 use Rattle.hash.specs.declared.Outcome.{Outcome}
 use Rattle.hash.specs.Outcome.{outcome, writtenWith, written}
 use Rattle.hash.specs.Private.{Ran}
-
--- ---- a start's number, and what an accepted one leaves
-
-started-number : (k : ℕ) (s : Start) → startedWith k s .number ≡ k
-started-number zero s = refl
-started-number (suc k) s = refl
-
-pub start-number : (s : Start) (r : Started) → Starts s r → r .number ≡ startRefusal s
-unfolding started
-start-number s r h = ap (λ (t : Started). t .number) (h .is) ∙ started-number (startRefusal s) s
-
-start-is : (s : Start) (r : Started) → Starts s r → startRefusal s ≡ 0 → r ≡ accepted s
-unfolding started
-start-is s r h e = h .is ∙ ap (λ (k : ℕ). startedWith k s) e
-
--- the prefix is whole blocks: the sponge stands at position 0
-start-lanes : (s : Start) → running (accepted s .lanes) 0 ≡ absorbed fresh (startPrefix s)
-start-lanes s =
-    let p : absorbed fresh (startPrefix s) .position ≡ 0
-    = absorbed-position (startPrefix s) (replicate 25 0) 0 (omega arith) ∙ omega (arith, startPrefix-blocks s) in
-    ap (running (accepted s .lanes)) (sym p)
 
 -- ---- refusals
 
@@ -115,24 +92,12 @@ chained l a b d m e p q suffix n first hp second hq end =
 module _ {f : Function} (c : Call f) (s : Started) (e out : List ℕ) (r : ℕ) (h : Starts (startOf c) s) (z : startRefusal (startOf c) ≡ 0) (is : e ≡ ending f (outputOf c))
     (ran : Ran s (messageOf c) e out (outputOf c) r) where
   output : out ≡ sponge (fed c) (outputOf c)
-  output =
-      let t : Start = startOf c in
-      let m : List ℕ = messageOf c ++ ending f (outputOf c) in
-      let end : (u : Started) → List ℕ = λ u. squeezed (outputOf c) (finished (u .suffix) (absorbed (running (u .lanes) 0) m)) in
-      ran .output
-      ∙ ap (λ (l : List ℕ). squeezed (outputOf c) (finished (s .suffix) (absorbed (running (s .lanes) 0) (messageOf c ++ l)))) is
-      ∙ ap end (start-is t s h z)
-      ∙ ap (λ (u : Running). squeezed (outputOf c) (finished (startSuffix t) (absorbed u m))) (start-lanes t)
-      ∙ ap (λ (u : Running). squeezed (outputOf c) (finished (startSuffix t) u)) (sym (absorbed-append fresh (startPrefix t) m))
-      ∙ squeezed-whole (startSuffix t) (startPrefix t ++ m) (outputOf c)
-      ∙ ap (λ (l : List ℕ). sponge (padded (startSuffix t) l) (outputOf c)) (sym (append-assoc (startPrefix t) (messageOf c) (ending f (outputOf c))))
-      ∙ ap (λ (l : List ℕ). sponge l (outputOf c)) (sym (fed-parts c))
+  output = ran .output ∙ call-output c s (messageOf c ++ e) (outputOf c) h z (ap (λ (l : List ℕ). messageOf c ++ l) is)
 
   counted : r ≡ runs c
   counted =
-      let b : s .blocks ≡ length (startPrefix (startOf c)) / 136 = ap (λ (u : Started). u .blocks) (start-is (startOf c) s h z) in
       let n : length e ≡ length (ending f (outputOf c)) = ap length is in
-      omega (arith, ran .runs, runs-by-lengths c, length-startPrefix (startOf c), length-ending f (outputOf c))
+      omega (arith, ran .runs, runs-by-lengths c, start-blocks (startOf c) s h z, length-ending f (outputOf c))
 
   pub answered : refusal c ≡ 0 → (before : List ℕ) → (record { number = 0; runs = r } ≡ outcome c) × (out ≡ written c before)
   unfolding outcome written
