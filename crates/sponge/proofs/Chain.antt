@@ -1,15 +1,14 @@
--- Calls in a row: what one call more of `absorb`, `absorb_zeros`, `finish` and `squeeze` adds to the input absorbed so far.
+-- Calls in a row: what one call more of `absorb`, `absorb_zeros` or `finish` adds to the input absorbed so far.
 use mathlib.Core.Path.{_≡_, refl, sym, ap, _∙_}
 use mathlib.Core.List.{List, [], _++_}
-use Prim.Native.Nat.{ℕ, _+_, _-_, _%_}
-use native.Mathlib.Nat.{mod-add-mod}
+use Prim.Native.Nat.{ℕ, _+_, _-_, _%_, _<_}
+use native.Mathlib.Nat.{mod-add-mod, mod-eq-of-lt}
 use native.Mathlib.Omega.{arith}
 use lib.ListN.{length, replicate}
-use Rattle.encode.specs.Padding.{padded, shortfall}
-use Rattle.sponge.specs.Sponge.{sponge}
-use Rattle.sponge.specs.Running.{Running, running, fresh, absorbed, finished, squeezed}
+use Rattle.encode.specs.Padding.{shortfall}
+use Rattle.sponge.specs.Running.{Running, running, absorbed, finished}
 use Rattle.sponge.proofs.Absorbing.{absorbed-append}
-use Rattle.sponge.proofs.Whole.{absorbed-position, squeezed-whole}
+use Rattle.sponge.proofs.Whole.{absorbed-position}
 
 pub start-absorb : (s : Running) → s ≡ absorbed s []
 unfolding absorbed
@@ -33,8 +32,13 @@ pub then-zeros : (s : Running) (a b xs : List ℕ) (t : ℕ) → running a (t % 
     → running b 0 ≡ absorbed s (xs ++ replicate (shortfall 136 t) 0)
 then-zeros s a b xs t e f = f ∙ ap (λ (u : Running). absorbed u (replicate (shortfall 136 t) 0)) e ∙ sym (absorbed-append s xs (replicate (shortfall 136 t) 0))
 
--- the end of the input, and the output from the beginning on
-pub then-sponge : (a b xs : List ℕ) (r suffix n : ℕ) → running a (r % 136) ≡ absorbed fresh xs → running b 0 ≡ finished suffix (running a (r % 136))
-    → squeezed n (running b 0) ≡ sponge (padded suffix xs) n
-then-sponge a b xs r suffix n e f =
-    ap (squeezed n) (f ∙ ap (finished suffix) e) ∙ squeezed-whole suffix xs n
+-- The same where a call's own position is handed on: it is below 136, so the remainder is itself.
+module _ (s : Running) (a b xs : List ℕ) (p : ℕ) (e : running a p ≡ absorbed s xs) (h : p < 136) where
+  at-position : running a (p % 136) ≡ absorbed s xs
+  at-position = ap (running a) (mod-eq-of-lt h) ∙ e
+
+  pub then-piece : (ys : List ℕ) (r : ℕ) → running b r ≡ absorbed (running a (p % 136)) ys → running b r ≡ absorbed s (xs ++ ys)
+  then-piece ys r f = then-absorb s a b xs ys p r at-position f
+
+  pub then-finish : (suffix : ℕ) → running b 0 ≡ finished suffix (running a (p % 136)) → running b 0 ≡ finished suffix (absorbed s xs)
+  then-finish suffix f = f ∙ ap (finished suffix) at-position

@@ -7,14 +7,14 @@ use native.Mathlib.Decide.{decLe}
 use native.Mathlib.Omega.{arith}
 use borrow.Author.Tests.{lt-ltb, le-ltb}
 use lib.ListN.{length, set, getD, take, drop, replicate, length-append, length-set, length-replicate}
-use lib.Seq.{take-append-le, take-append-add, take-length}
+use lib.Seq.{take-append-le, take-append-add, take-length, take-at, drop-at}
 use Rattle.keccak.specs.Fips202.{keccakP}
 use Rattle.encode.specs.Padding.{padding, padded}
 use Rattle.encode.specs.Laws.Padding.{padded-split, padding-set, length-padding}
 use Rattle.encode.specs.Laws.Lengths.{length-padded}
 use Rattle.sponge.specs.Sponge.{xorByte, xorBytes, byteAt, bytesAt, absorb, squeeze, sponge}
 use Rattle.sponge.specs.Running.{Running, running, fresh, absorbByte, absorbed, finished, refreshed, squeezedByte, afterByte, squeezed, after}
-use Rattle.sponge.proofs.Absorbing.{absorbByte-in, absorbByte-last, absorbed-append, absorbed-block, absorbed-blocks, refreshed-in, refreshed-out, squeezed-add, squeezed-in, after-in, length-bytesAt, bytesAt-append}
+use Rattle.sponge.proofs.Absorbing.{absorbByte-in, absorbByte-last, absorbed-append, absorbed-block, absorbed-blocks, refreshed-in, refreshed-out, squeezed-add, length-squeezed, squeezed-in, after-in, length-bytesAt, bytesAt-append}
 use Rattle.sponge.proofs.XorBytes.{xorBytes-set, xorBytes-zeros}
 
 -- ---- the position
@@ -102,6 +102,33 @@ unfolding sponge
 squeezed-whole suffix m n =
     ap (squeezed n) (absorbed-whole suffix m)
     ∙ squeezed-squeeze ((n + 135) / 136) (absorb (length (padded suffix m) / 136) (replicate 25 0) (padded suffix m)) n (omega arith)
+
+-- ---- a shorter output is the beginning of a longer one
+
+-- the lanes that all input has been absorbed into
+abbrev pub filled : List ℕ → List ℕ
+filled m = absorb (length m / 136) (replicate 25 0) m
+
+pub sponge-running : (m : List ℕ) (n : ℕ) → sponge m n ≡ squeezed n (running (filled m) 0)
+unfolding sponge
+sponge-running m n = sym (squeezed-squeeze ((n + 135) / 136) (filled m) n (omega arith))
+
+module _ (n k : ℕ) (s : Running) where
+  pub squeezed-take : take n (squeezed (n + k) s) ≡ squeezed n s
+  squeezed-take = ap (take n) (squeezed-add n k s) ∙ take-at (squeezed n s) (squeezed k (after n s)) n (length-squeezed n s)
+
+  pub squeezed-drop : drop n (squeezed (n + k) s) ≡ squeezed k (after n s)
+  squeezed-drop = ap (drop n) (squeezed-add n k s) ∙ drop-at (squeezed n s) (squeezed k (after n s)) n (length-squeezed n s)
+
+pub sponge-prefix : (m : List ℕ) (n l : ℕ) → n ≤ l → take n (sponge m l) ≡ sponge m n
+sponge-prefix m n l h =
+    let e : l ≡ n + (l - n) = omega arith in
+    ap (take n) (sponge-running m l ∙ ap (λ (k : ℕ). squeezed k (running (filled m) 0)) e)
+    ∙ squeezed-take n (l - n) (running (filled m) 0)
+    ∙ sym (sponge-running m n)
+
+pub length-sponge : (m : List ℕ) (n : ℕ) → length (sponge m n) ≡ n
+length-sponge m n = ap length (sponge-running m n) ∙ length-squeezed n (running (filled m) 0)
 
 -- ---- zeros to the block's end
 

@@ -1,0 +1,4 @@
+pub mod Combining
+pub mod StreamAndTag
+pub mod Outcomes
+pub mod RoundTrip
