@@ -4,6 +4,7 @@ ghost use lib.ListN.{length};
 ghost use Rattle.keccak.specs.Fips202.{keccakP};
 ghost use Rattle.calls.specs.Call.{cshake256, kmac256, kmacxof256};
 ghost use Rattle.hash.specs.Outcome.{outcome, written};
+ghost use Rattle.seal.specs.Answers.{sealed, sealedText, sealedTag, opened, openedText};
 ghost use Rattle.hailfeather.specs.Exported.{exported};
 
 // The number that a call is answered with, and the permutations it took.
@@ -66,6 +67,45 @@ pub extern "C" fn hf_kmacxof256(
         × (now (out .exit) ≡ written (kmacxof256 (now (key .entry)) (now (message .entry)) (length (now (out .entry))) (now (customisation .entry))) (now (out .entry))) ⌝ }
 {
     let outcome = hash::kmacxof256(key, customisation, message, out);
+    HfOutcome {
+        runs: outcome.runs,
+        number: outcome.number,
+    }
+}
+
+#[no_mangle]
+pub extern "C" fn hf_seal(
+    key: &[u8],
+    iv: &[u8],
+    text: &[u8],
+    label: &[u8],
+    out: &mut [u8],
+    tag: &mut [u8],
+) -> HfOutcome
+    ensures { λ r. ⌜ (r ≡ exported (sealed (record { key = now (key .entry); iv = now (iv .entry); text = now (text .entry); label = now (label .entry) }) (length (now (out .entry))) (length (now (tag .entry)))))
+        × (now (out .exit) ≡ sealedText (record { key = now (key .entry); iv = now (iv .entry); text = now (text .entry); label = now (label .entry) }) (now (out .entry)) (length (now (tag .entry))))
+        × (now (tag .exit) ≡ sealedTag (record { key = now (key .entry); iv = now (iv .entry); text = now (text .entry); label = now (label .entry) }) (length (now (out .entry))) (now (tag .entry))) ⌝ }
+{
+    let outcome = seal::seal(key, iv, text, label, out, tag);
+    HfOutcome {
+        runs: outcome.runs,
+        number: outcome.number,
+    }
+}
+
+#[no_mangle]
+pub extern "C" fn hf_open(
+    key: &[u8],
+    iv: &[u8],
+    ciphertext: &[u8],
+    label: &[u8],
+    out: &mut [u8],
+    tag: &[u8],
+) -> HfOutcome
+    ensures { λ r. ⌜ (r ≡ exported (opened (record { key = now (key .entry); iv = now (iv .entry); text = now (ciphertext .entry); label = now (label .entry) }) (length (now (out .entry))) (now (tag .entry))))
+        × (now (out .exit) ≡ openedText (record { key = now (key .entry); iv = now (iv .entry); text = now (ciphertext .entry); label = now (label .entry) }) (now (out .entry)) (now (tag .entry))) ⌝ }
+{
+    let outcome = seal::open(key, iv, ciphertext, label, out, tag);
     HfOutcome {
         runs: outcome.runs,
         number: outcome.number,
