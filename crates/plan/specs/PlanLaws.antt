@@ -1,19 +1,20 @@
 -- Laws of plans: a lookup agrees with the list of rows at every chute; every row lies inside its plan, and its bytes alone read as its destination.
 use mathlib.Core.Path.{_≡_, refl, sym, ap, _∙_}
 use mathlib.Core.List.{List, [], _∷_}
-use mathlib.Core.Bool.{Bool, true, false, cond}
+use mathlib.Core.Bool.{Bool, true, false, cond, _&&_}
 use Prim.Native.Nat.{ℕ, zero, suc, _+_, _-_, _%_, _≤_, _<_}
 use native.Mathlib.Omega.{arith}
 use lib.ListN.{length, getD, take, drop, length-drop}
 use lib.Seq.{drop-drop}
 use lib.Dec.{ltb, leb}
-use borrow.Author.Tests.{le-leb, lt-leb}
+use borrow.Author.Tests.{le-leb, lt-leb, leb-true}
 use Rattle.plan.specs.Number.{Parsed, value, bad, nextGroup, groups, number}
 use Rattle.plan.specs.NumberLaws.{Used, groups-used}
 use Rattle.plan.specs.Plan.{Plan, rows, refused, malformed, consRow, afterNumber, row, rowsFrom, planIn, planOf, noRow, rowAt, planAnswer}
 use Rattle.plan.specs.Answers.{summaryOf, hasChute, noDestination, lookup, lookupOf}
 use Rattle.plan.specs.declared.Row.{Row}
 use Rattle.plan.specs.declared.Lookup.{Lookup}
+use Rattle.plan.specs.declared.PlanRead.the-variants.{Rows}
 
 -- a lookup and the list of rows, of a plan that is not refused
 module _ (s : List ℕ) (l : List Row) (e : planOf s ≡ rows l) where
@@ -121,3 +122,24 @@ plan-in s = long (ltb 65536 (length s)) (planIn s) (go (number 0 s) (groups-used
         let e : rest ≡ drop next s = u .1 .1 ∙ rw k in
         rw e (most (leb v 4096) (rowsFrom v next (drop next s)) (rows-in s v next))
     go (bad place) u = tt
+
+-- what it says that a plan has a chute
+pub has-chute : (n chute : ℕ) → hasChute n chute ≡ true → (1 ≤ chute) × (chute ≤ n)
+has-chute n chute e = go (leb 1 chute) (leb chute n) refl refl e
+  where
+    go : (a b : Bool) → leb 1 chute ≡ a → leb chute n ≡ b → (a && b) ≡ true → (1 ≤ chute) × (chute ≤ n)
+    go true true p q e = (leb-true _ _ p, leb-true _ _ q)
+    go true false p q e = let z : _≡_ {A = ℕ} 0 1 = cc in absurd (omega arith)
+    go false b p q e = let z : _≡_ {A = ℕ} 0 1 = cc in absurd (omega arith)
+
+-- the row that reading a plan whole keeps, of a chute that the plan has
+pub kept-in : (s : List ℕ) (chute n : ℕ) (r : Row) → planAnswer chute (planOf s) ≡ Rows n r → hasChute n chute ≡ true → RowIn s r
+kept-in s chute n r e h = go chute (planOf s) (plan-in s) e (has-chute n chute h)
+  where
+    go : (chute : ℕ) (p : Plan) → RowsIn s p → planAnswer chute p ≡ Rows n r → (1 ≤ chute) × (chute ≤ n) → RowIn s r
+    go zero p a e h = absurd (omega arith)
+    go (suc c) (rows l) a e h =
+        let en : n ≡ length l = cc in
+        let er : getD l c noRow ≡ r = cc in
+        rw er at (a c (omega arith))
+    go (suc c) (refused m place) a e h = let z : _≡_ {A = ℕ} 0 1 = cc in absurd (omega arith)

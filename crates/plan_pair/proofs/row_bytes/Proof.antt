@@ -1,0 +1,29 @@
+-- The location is found, its refusal stored, and the part at it returned.
+-- Each is what the definition is made of.
+use mathlib.Core.Path.{_≡_, refl, sym, ap, _∙_}
+use denote.Ref.{now}
+use Rattle.plan_pair.specs.Pair.{locationOf, partOf, rowBytesOf}
+use Rattle.plan_pair.specs.declared.RowLocation.{RowLocation}
+use borrow.Author.Needs.{needs}
+use Rattle.plan_pair.proofs.row_bytes.Statement.{statement}
+use Rattle.plan_pair.proofs.row_bytes.Tie as tie
+use Rattle.plan_pair.proofs.row_bytes.Reads as reads
+use Rattle.plan_pair.proofs.row_bytes.Lts as lts
+use Rattle.plan_pair.proofs.row_location.Reads as row-location-reads
+use Rattle.plan_pair.proofs.row_part.Reads as row-part-reads
+
+row-location-requires : tie.Need-row-location-requires
+row-location-requires c κs = search needs
+
+row-part-requires : tie.Need-row-part-requires
+row-part-requires c κs = search needs
+
+returns : tie.Need-returns
+unfolding rowBytesOf
+returns c =
+    let a = c .before .before .before .before .args in
+    let e = c .before .row-location .ensures in
+    (c .row-part .ensures ∙ ap (partOf (now (a .site)) (now (a .house))) e, ap (λ (l : RowLocation). l .refusal) e)
+
+pub row-bytes-spec : {M : Type 1} → statement M
+row-bytes-spec = tie.close (tie.spec row-location-requires row-part-requires returns)
