@@ -143,3 +143,32 @@ kept-in s chute n r e h = go chute (planOf s) (plan-in s) e (has-chute n chute h
         let er : getD l c noRow ≡ r = cc in
         rw er at (a c (omega arith))
     go (suc c) (refused m place) a e h = let z : _≡_ {A = ℕ} 0 1 = cc in absurd (omega arith)
+
+-- a refused plan has a number
+abbrev pub Numbered : Plan → Type 0
+Numbered (rows l) = Unit
+Numbered (refused n place) = 1 ≤ n
+
+cons-numbered : (r : Row) (p : Plan) → Numbered p → Numbered (consRow r p)
+cons-numbered r (rows l) u = tt
+cons-numbered r (refused n place) u = u
+
+after-numbered : (p : Parsed) (go : ℕ → ℕ → List ℕ → Plan) → ((v next : ℕ) (rest : List ℕ) → Numbered (go v next rest)) → Numbered (afterNumber p go)
+after-numbered (value v next rest) go u = u v next rest
+after-numbered (bad place) go u = omega arith
+
+rows-numbered : (n at : ℕ) (s : List ℕ) → Numbered (rowsFrom n at s)
+unfolding rowsFrom
+rows-numbered zero at [] = tt
+rows-numbered zero at (b ∷ s) = omega arith
+rows-numbered (suc n) at s = after-numbered (number at s) _ (λ v next rest. cons-numbered (row v at next) (rowsFrom n next rest) (rows-numbered n next rest))
+
+pick-numbered : (t : Bool) (p q : Plan) → Numbered p → Numbered q → Numbered (cond t p q)
+pick-numbered true p q u w = u
+pick-numbered false p q u w = w
+
+pub plan-numbered : (s : List ℕ) → Numbered (planOf s)
+unfolding planOf
+plan-numbered s =
+    pick-numbered (ltb 65536 (length s)) (refused 5 0) (planIn s) (omega arith)
+    (after-numbered (number 0 s) _ (λ v next rest. pick-numbered (leb v 4096) (rowsFrom v next rest) (malformed 0) (rows-numbered v next rest) (omega arith)))
