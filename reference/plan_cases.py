@@ -4,6 +4,7 @@
 usage: python3 reference/plan_cases.py > crates/plan_cases/stdout
 Standard library only. Nothing here is taken from the Rattle code: the rules are those of 'The chute plan' and of the table of numbers.
 """
+import functools
 import sys
 
 MOST_BYTES = 65536
@@ -46,6 +47,7 @@ def read_rows(data):
     return result
 
 
+@functools.lru_cache(maxsize=16)
 def plan(data):
     """(refusal, rows) of a plan to be read."""
     if len(data) > MOST_BYTES:
@@ -197,7 +199,9 @@ def pairs(out):
     ):
         for chute in (0, 1, 2, 3, 4, 5, 4096, 4294967295):
             refusal, source, start, part = row_of_two(first, second, chute)
-            out(" ".join(str(n) for n in [refusal, source, start, len(part)] + list(part)))
+            # once as returned, once as cut at its location
+            for _ in range(2):
+                out(" ".join(str(n) for n in [refusal, source, start, len(part)] + list(part)))
 
 
 def written(out):
