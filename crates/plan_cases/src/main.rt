@@ -6,7 +6,9 @@ mod show;
 fn main() {
     examples();
     sample();
-    edges();
+    padded();
+    fourth_group();
+    after_the_last_row();
     many_rows();
     long();
     pairs();
@@ -52,7 +54,7 @@ fn sample() {
     damage::one_byte();
 }
 
-fn edges() {
+fn padded() {
     show::heading(b"padded");
     show::line(b"\x01\x87\x00");
     show::line(b"\x01\x87\x80\x00");
@@ -63,6 +65,9 @@ fn edges() {
     show::line(b"\x80\x80\x00");
     show::line(b"\x01\xFF\xFF\x7F");
     show::line(b"\x01\x80\x80\x00");
+}
+
+fn fourth_group() {
     show::heading(b"fourth group");
     show::line(b"\x01\x80\x80\x80\x00");
     show::line(b"\x01\xFF\xFF\xFF\x7F");
@@ -70,6 +75,9 @@ fn edges() {
     show::line(b"\x81\x80\x80\x00\x07");
     show::line(b"\x01\xFF\xFF\x80");
     show::line(b"\x01\xFF\xFF\xFF");
+}
+
+fn after_the_last_row() {
     show::heading(b"after the last row");
     show::line(b"\x00\x00");
     show::line(b"\x00\x00\x00");
@@ -99,35 +107,39 @@ fn pairs() {
     show::heading(b"pairs");
     let site = b"\x02\xAC\x02\x07";
     let house = b"\x04\x80\x01\x01\x80\x80\x01\x09";
-    let none = b"\x00";
-    let bad = b"\x01\x80\x80";
-    let long = [0u8; 65537];
     others::pair(site, house);
     others::pair(house, site);
-    others::pair(site, none);
-    others::pair(none, house);
-    others::pair(none, none);
-    others::pair(site, bad);
-    others::pair(bad, site);
-    others::pair(bad, bad);
-    others::pair(site, &long);
-    others::pair(&long, site);
-    others::pair(&long, bad);
-    others::pair(bad, &long);
-    others::pair(&long, &long);
+    pairs_with_none(site, house, b"\x00");
+    pairs_refused(site, b"\x01\x80\x80");
+    let long = [0u8; 65537];
+    pairs_refused_5(site, b"\x01\x80\x80", &long);
     others::pair(b"", site);
     others::pair(site, b"");
 }
 
+fn pairs_with_none<'a>(site: &'a [u8], house: &'a [u8], none: &'a [u8]) {
+    others::pair(site, none);
+    others::pair(none, house);
+    others::pair(none, none);
+}
+
+fn pairs_refused<'a>(site: &'a [u8], bad: &'a [u8]) {
+    others::pair(site, bad);
+    others::pair(bad, site);
+    others::pair(bad, bad);
+}
+
+fn pairs_refused_5<'a>(site: &'a [u8], bad: &'a [u8], long: &'a [u8]) {
+    others::pair(site, long);
+    others::pair(long, site);
+    others::pair(long, bad);
+    others::pair(bad, long);
+    others::pair(long, long);
+}
+
 fn written() {
     show::heading(b"written");
-    let one = [0u32; 1];
-    others::write(&one[..0]);
-    others::write(&one);
-    let edges = [0u32, 1, 127, 128, 300, 16383, 16384, 2097151];
-    others::write(&edges);
-    let above = [7u32, 300, 0];
-    others::write(&above);
+    few_written();
     let largest = [2097151u32; 1];
     others::write(&largest);
     let too_large = [2097152u32; 1];
@@ -137,6 +149,16 @@ fn written() {
     let widths = [127u32, 128, 16383, 16384];
     others::write(&widths);
     many_written();
+}
+
+fn few_written() {
+    let one = [0u32; 1];
+    others::write(&one[..0]);
+    others::write(&one);
+    let edges = [0u32, 1, 127, 128, 300, 16383, 16384, 2097151];
+    others::write(&edges);
+    let above = [7u32, 300, 0];
+    others::write(&above);
 }
 
 fn many_written() {
