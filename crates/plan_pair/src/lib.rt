@@ -5,7 +5,7 @@ ghost use mathlib.Core.Path.{_≡_};
 ghost use mathlib.Core.Bool.{cond};
 ghost use Prim.Native.Nat.{_≤_};
 ghost use lib.Dec.{leb};
-ghost use Rattle.plan_pair.specs.Pair.{noLocation, locationIn, locationOf, partFrom, partOf, rowBytesOf};
+ghost use Rattle.plan_pair.specs.Pair.{noLocation, locationIn, locationOf, partFrom, addressFrom, partOf, addressOf, rowBytesOf};
 
 // The plan that a row came from.
 pub enum Source {
@@ -92,7 +92,7 @@ pub fn row_location(site: &[u8], house: &[u8], chute: u32) -> RowLocation
 
 // The bytes from a place on; none where they would run past the end.
 fn part(bytes: &[u8], start: usize, length: usize) -> &[u8]
-    ensures { λ r. ⌜ now r ≡ partFrom (now (bytes .entry)) start length ⌝ }
+    ensures { λ r. ⌜ (now r ≡ partFrom (now (bytes .entry)) start length) × (r .ptr ≡ addressFrom (bytes .entry) start length) ⌝ }
 {
     if bytes.len() < start {
         return &bytes[..0];
@@ -106,7 +106,7 @@ fn part(bytes: &[u8], start: usize, length: usize) -> &[u8]
 
 // The bytes at a location, as a part of the plan that it names; none where it names neither or runs past the plan's end.
 pub fn row_part<'a>(site: &'a [u8], house: &'a [u8], location: RowLocation) -> &'a [u8]
-    ensures { λ r. ⌜ now r ≡ partOf (now (site .entry)) (now (house .entry)) location ⌝ }
+    ensures { λ r. ⌜ (now r ≡ partOf (now (site .entry)) (now (house .entry)) location) × (r .ptr ≡ addressOf (site .entry) (house .entry) location) ⌝ }
 {
     let source = location.source;
     let start = location.start;
@@ -120,7 +120,7 @@ pub fn row_part<'a>(site: &'a [u8], house: &'a [u8], location: RowLocation) -> &
 
 // The bytes of a chute's row, as a part of the plan it came from, empty on a refusal; the refusal goes to the lent number.
 pub fn row_bytes<'a>(site: &'a [u8], house: &'a [u8], chute: u32, refusal: &mut u8) -> &'a [u8]
-    ensures { λ r. ⌜ (now r ≡ rowBytesOf (now (site .entry)) (now (house .entry)) chute) × (now (refusal .exit) ≡ locationOf (now (site .entry)) (now (house .entry)) chute .refusal) ⌝ }
+    ensures { λ r. ⌜ (now r ≡ rowBytesOf (now (site .entry)) (now (house .entry)) chute) × ((r .ptr ≡ addressOf (site .entry) (house .entry) (locationOf (now (site .entry)) (now (house .entry)) chute)) × (now (refusal .exit) ≡ locationOf (now (site .entry)) (now (house .entry)) chute .refusal)) ⌝ }
 {
     let location = row_location(site, house, chute);
     *refusal = location.refusal;

@@ -2,7 +2,7 @@
 -- Each is what the definition is made of.
 use mathlib.Core.Path.{_≡_, refl, sym, ap, _∙_}
 use denote.Ref.{now}
-use Rattle.plan_pair.specs.Pair.{locationOf, partOf, rowBytesOf}
+use Rattle.plan_pair.specs.Pair.{locationOf, partOf, addressOf, rowBytesOf}
 use Rattle.plan_pair.specs.declared.RowLocation.{RowLocation}
 use borrow.Author.Needs.{needs}
 use Rattle.plan_pair.proofs.row_bytes.Statement.{statement}
@@ -23,7 +23,10 @@ unfolding rowBytesOf
 returns c =
     let a = c .before .before .before .before .args in
     let e = c .before .row-location .ensures in
-    (c .row-part .ensures ∙ ap (partOf (now (a .site)) (now (a .house))) e, ap (λ (l : RowLocation). l .refusal) e)
+    let part = c .row-part .ensures in (
+      part .0 ∙ ap (partOf (now (a .site)) (now (a .house))) e,
+      (part .1 ∙ ap (addressOf (a .site) (a .house)) e, ap (λ (l : RowLocation). l .refusal) e),
+    )
 
 pub row-bytes-spec : {M : Type 1} → statement M
 row-bytes-spec = tie.close (tie.spec row-location-requires row-part-requires returns)

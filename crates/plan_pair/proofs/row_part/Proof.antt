@@ -28,10 +28,10 @@ slice-aggregate-result : tie.Need-slice-aggregate-result
 slice-aggregate-result c = search needs
 
 returns : tie.Need-returns
-returns c = c .part .ensures ∙ (rw (c .before .enum-told .given .1))
+returns c = let e = c .before .enum-told .given .1 in (c .part .ensures .0 ∙ (rw e), c .part .ensures .1 ∙ (rw e))
 
 returns-2 : tie.Need-returns-2
-returns-2 c = c .part2 .ensures ∙ (rw (c .before .enum-told2 .given .1))
+returns-2 c = let e = c .before .enum-told2 .given .1 in (c .part2 .ensures .0 ∙ (rw e), c .part2 .ensures .1 ∙ (rw e))
 
 returns-3 : tie.Need-returns-3
 returns-3 c = search needs
