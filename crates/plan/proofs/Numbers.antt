@@ -11,8 +11,8 @@ use lib.ListN.{length, getD, drop, drop-of-length-le}
 use lib.Seq.{drop-cons}
 use borrow.Author.Tests.{lt-ltb, le-ltb}
 use Rattle.plan.specs.Number.{Parsed, value, bad, nextGroup, groups, number, numberAnswer, limit}
-use Rattle.plan.specs.declared.Number.{Number}
-use Rattle.plan.specs.declared.Number.the-variants.{Value, Bad}
+use Rattle.plan.specs.declared.number.Number.{Number}
+use Rattle.plan.specs.declared.number.Number.the-variants.{Value, Bad}
 
 -- the byte at a place, and the list from the next place on
 pub here : (at : ℕ) (s : List ℕ) → at < length s → drop at s ≡ getD s at 0 ∷ drop (at + 1) s

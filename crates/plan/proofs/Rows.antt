@@ -10,8 +10,8 @@ use borrow.Author.Tests.{eq-eqb, ne-eqb, le-leb, lt-leb, lt-ltb, le-ltb}
 use Rattle.plan.specs.Number.{Parsed, value, bad, groups, number, numberAnswer}
 use Rattle.plan.specs.NumberLaws.{Rest, groups-rest}
 use Rattle.plan.specs.Plan.{row, rowAnswer, Plan, rows, refused, malformed, consRow, afterNumber, rowsFrom, planIn, planOf, noRow, rowAt, planAnswer}
-use Rattle.plan.specs.declared.Number.{Number}
-use Rattle.plan.specs.declared.Number.the-variants.{Value, Bad}
+use Rattle.plan.specs.declared.number.Number.{Number}
+use Rattle.plan.specs.declared.number.Number.the-variants.{Value, Bad}
 use Rattle.plan.specs.declared.Row.{Row}
 use Rattle.plan.specs.declared.RowRead.{RowRead}
 use Rattle.plan.specs.declared.RowRead.the-variants.{Found, NotRow}

@@ -3,8 +3,8 @@ use Prim.Native.Nat.{ℕ, zero, suc, _+_, _*_, _%_}
 use mathlib.Core.List.{List, [], _∷_}
 use mathlib.Core.Bool.{cond}
 use lib.Dec.{ltb}
-use Rattle.plan.specs.declared.Number.{Number}
-use Rattle.plan.specs.declared.Number.the-variants.{Value, Bad}
+use Rattle.plan.specs.declared.number.Number.{Number}
+use Rattle.plan.specs.declared.number.Number.the-variants.{Value, Bad}
 
 -- What a list of bytes, the first of which stands at some place, starts with: a number, the place past it and the bytes from there on; or the
 -- place at which reading failed: the first byte missing, or the last byte allowed when it promises another.

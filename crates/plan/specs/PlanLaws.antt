@@ -62,7 +62,8 @@ unfolding groups
 one-alone zero at b s e = let k : at + 1 - at ≡ suc 0 = omega arith in rw (k, e)
 one-alone (suc more) at b s e = let k : at + 1 - at ≡ suc 0 = omega arith in rw (k, e)
 
-last-alone : (t : Bool) (more at b : ℕ) (s : List ℕ) (p : Parsed) → ltb b 128 ≡ t → (ltb b 128 ≡ false → Alone more at (b ∷ s) p) → Alone more at (b ∷ s) (cond t (value b (at + 1) s) p)
+last-alone : (t : Bool) (more at b : ℕ) (s : List ℕ) (p : Parsed) → ltb b 128 ≡ t → (ltb b 128 ≡ false → Alone more at (b ∷ s) p)
+    → Alone more at (b ∷ s) (cond t (value b (at + 1) s) p)
 last-alone true more at b s p e a = one-alone more at b s e
 last-alone false more at b s p e a = a e
 

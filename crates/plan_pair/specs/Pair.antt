@@ -1,6 +1,7 @@
 -- A site plan and a house plan lent together (document 01, 'The chute plan', questions): the row of a chute in the site plan if it has that chute,
 -- else in the house plan, as a part of the plan it came from. Each answer is set out by the cases of what reading the two plans whole finds.
 use Prim.Native.Nat.{ℕ, _+_, _-_}
+use mathlib.Core.Path.{_≡_}
 use mathlib.Core.List.{List, []}
 use mathlib.Core.Bool.{Bool, cond, _&&_}
 use lib.Dec.{leb}
@@ -62,3 +63,9 @@ addressOf site house l = addressIn (l .source) site house (l .start) (l .length)
 
 unfoldable pub rowBytesOf : List ℕ → List ℕ → ℕ → List ℕ
 rowBytesOf site house chute = partOf site house (locationOf site house chute)
+
+-- the bytes r of a chute's row, where they stand, and the refusal: the empty part on a refusal
+pub record RowBytes (site house : RefT (List ℕ)) (chute : ℕ) (r : RefT (List ℕ)) (refusal : ℕ) : Type 0 where
+  pub bytes : now r ≡ rowBytesOf (now site) (now house) chute
+  pub address : r .ptr ≡ addressOf site house (locationOf (now site) (now house) chute)
+  pub number : refusal ≡ locationOf (now site) (now house) chute .refusal

@@ -5,7 +5,7 @@ ghost use mathlib.Core.Path.{_≡_};
 ghost use mathlib.Core.Bool.{cond};
 ghost use Prim.Native.Nat.{_≤_};
 ghost use lib.Dec.{leb};
-ghost use Rattle.plan_pair.specs.Pair.{noLocation, locationIn, locationOf, partFrom, addressFrom, partOf, addressOf, rowBytesOf};
+ghost use Rattle.plan_pair.specs.Pair.{noLocation, locationIn, locationOf, partFrom, addressFrom, partOf, addressOf, RowBytes};
 
 // The plan that a row came from.
 pub enum Source {
@@ -120,7 +120,7 @@ pub fn row_part<'a>(site: &'a [u8], house: &'a [u8], location: RowLocation) -> &
 
 // The bytes of a chute's row, as a part of the plan it came from, empty on a refusal; the refusal goes to the lent number.
 pub fn row_bytes<'a>(site: &'a [u8], house: &'a [u8], chute: u32, refusal: &mut u8) -> &'a [u8]
-    ensures { λ r. ⌜ (now r ≡ rowBytesOf (now (site .entry)) (now (house .entry)) chute) × ((r .ptr ≡ addressOf (site .entry) (house .entry) (locationOf (now (site .entry)) (now (house .entry)) chute)) × (now (refusal .exit) ≡ locationOf (now (site .entry)) (now (house .entry)) chute .refusal)) ⌝ }
+    ensures { λ r. ⌜ RowBytes (site .entry) (house .entry) chute r (now (refusal .exit)) ⌝ }
 {
     let location = row_location(site, house, chute);
     *refusal = location.refusal;

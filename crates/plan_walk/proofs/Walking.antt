@@ -7,8 +7,8 @@ use borrow.Author.Tests.{eq-eqb, ne-eqb}
 use Rattle.plan.specs.Number.{Parsed, value, bad, number, numberAnswer}
 use Rattle.plan.specs.Plan.{rowAnswer}
 use Rattle.plan.specs.Answers.{summaryOf}
-use Rattle.plan.specs.declared.Number.{Number}
-use Rattle.plan.specs.declared.Number.the-variants.{Value, Bad}
+use Rattle.plan.specs.declared.number.Number.{Number}
+use Rattle.plan.specs.declared.number.Number.the-variants.{Value, Bad}
 use Rattle.plan.specs.declared.RowRead.{RowRead}
 use Rattle.plan.specs.declared.PlanSummary.{PlanSummary}
 use Rattle.plan_walk.specs.Walk.{start, startOf, stay, asked, stepOf}

@@ -3,6 +3,7 @@ use plan::Number;
 use plan::RowRead;
 ghost use mathlib.Core.Path.{_≡_};
 ghost use Rattle.plan_walk.specs.Walk.{stay, startOf, stepOf};
+ghost use Rattle.plan_walk.specs.Walker.{walkerAt, asks, moved};
 
 // The lent plan, the place of the next row in it, and the plan's refusal.
 pub struct Walker<'a> {
@@ -66,7 +67,7 @@ pub fn step_at(plan: &[u8], at: usize, refusal: u8) -> Step
 
 // A walker at the first row of a plan.
 pub fn new<'a>(plan: &'a [u8]) -> Walker<'a>
-    ensures { λ r. ⌜ (r .plan ≡ plan .entry) × ((r .at ≡ startOf (now (plan .entry)) .at) × (r .refusal ≡ startOf (now (plan .entry)) .refusal)) ⌝ }
+    ensures { λ r. ⌜ r ≡ walkerAt (plan .entry) (startOf (now (plan .entry))) ⌝ }
 {
     let start = start_at(plan);
     Walker {
@@ -78,7 +79,7 @@ pub fn new<'a>(plan: &'a [u8]) -> Walker<'a>
 
 // An ask: the next row's destination, and the walker stands past that row.
 pub fn next<'s, 'a>(w: &'s mut Walker<'a>) -> Step
-    ensures { λ r. ⌜ (r ≡ stepOf (now (now (w .entry) .plan)) (now (w .entry) .at) (now (w .entry) .refusal)) × ((now (w .exit) .plan ≡ now (w .entry) .plan) × ((now (w .exit) .at ≡ r .next) × (now (w .exit) .refusal ≡ now (w .entry) .refusal))) ⌝ }
+    ensures { λ r. ⌜ (r ≡ asks (now (w .entry))) × (now (w .exit) ≡ moved (now (w .entry)) (r .next)) ⌝ }
 {
     let answer = step_at(w.plan, w.at, w.refusal);
     w.at = answer.next;

@@ -8,10 +8,6 @@ use Rattle.plan.specs.declared.PlanRead.the-variants.{Rows}
 use borrow.Author.Needs.{needs}
 use Rattle.plan.proofs.destination.Statement.{statement}
 use Rattle.plan.proofs.destination.Tie as tie
-use Rattle.plan.proofs.destination.Reads as reads
-use Rattle.plan.proofs.destination.Lts as lts
-use Rattle.plan.proofs.has_chute.Reads as has-chute-reads
-use Rattle.plan.proofs.read_whole.Reads as read-whole-reads
 
 -- where rows were found, the answer follows from their number and the row kept
 found : (c : tie.After-count) → let a = c .before .before .before .before .args in lookup (a .chute) (Rows (c .count .given .0 .0) (c .count .given .0 .1 .0)) ≡ lookupOf (now (a .plan)) (a .chute)

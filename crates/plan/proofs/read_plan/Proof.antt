@@ -5,9 +5,6 @@ use Rattle.plan.specs.Answers.{summary, summaryOf}
 use borrow.Author.Needs.{needs}
 use Rattle.plan.proofs.read_plan.Statement.{statement}
 use Rattle.plan.proofs.read_plan.Tie as tie
-use Rattle.plan.proofs.read_plan.Reads as reads
-use Rattle.plan.proofs.read_plan.Lts as lts
-use Rattle.plan.proofs.read_whole.Reads as read-whole-reads
 
 read-whole-requires : tie.Need-read-whole-requires
 read-whole-requires c κs = search needs

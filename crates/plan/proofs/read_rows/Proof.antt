@@ -11,12 +11,6 @@ use Rattle.plan.specs.declared.PlanRead.the-variants.{Rows, Refused}
 use Rattle.plan.proofs.Rows.{keeping, keeping-start, keeping-more, keeping-bad, keeping-over, keeping-done}
 use Rattle.plan.proofs.read_rows.Statement.{statement}
 use Rattle.plan.proofs.read_rows.Tie as tie
-use Rattle.plan.proofs.read_rows.Reads as reads
-use Rattle.plan.proofs.read_rows.Lts as lts
-use Rattle.plan.proofs.kept.Reads as kept-reads
-use Rattle.plan.proofs.malformed.Reads as malformed-reads
-use Rattle.plan.proofs.place_of.Reads as place-of-reads
-use Rattle.plan.proofs.row_at.Reads as row-at-reads
 
 abbrev Inv-loop : tie.InvT-loop
 Inv-loop plan first count chute found₀ at₀ i₀ found at i =

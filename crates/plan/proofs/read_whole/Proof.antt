@@ -6,17 +6,12 @@ use native.Mathlib.Omega.{arith}
 use denote.Ref.{now}
 use borrow.Author.Tests.{le-leb, lt-leb}
 use Rattle.plan.specs.Plan.{planOf, planAnswer}
-use Rattle.plan.specs.declared.Number.the-variants.{Value, Bad}
+use Rattle.plan.specs.declared.number.Number.the-variants.{Value, Bad}
 use Rattle.plan.specs.declared.PlanRead.the-variants.{Refused}
 use Rattle.plan.proofs.Rows.{rowsAfter, whole-long, whole-after}
 use borrow.Author.Needs.{needs}
 use Rattle.plan.proofs.read_whole.Statement.{statement}
 use Rattle.plan.proofs.read_whole.Tie as tie
-use Rattle.plan.proofs.read_whole.Reads as reads
-use Rattle.plan.proofs.read_whole.Lts as lts
-use Rattle.plan.proofs.malformed.Reads as malformed-reads
-use Rattle.plan.proofs.number_at.Reads as number-at-reads
-use Rattle.plan.proofs.read_rows.Reads as read-rows-reads
 
 -- what the plan is after its first number
 after : (c : tie.After-value) → let a = c .before .before .before .before .before .args in rowsAfter (a .chute) (now (a .plan)) (Value (c .value .given .0 .0) (c .value .given .0 .1 .0)) ≡ planAnswer (a .chute) (planOf (now (a .plan)))

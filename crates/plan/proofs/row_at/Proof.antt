@@ -6,9 +6,6 @@ use Rattle.plan.proofs.Rows.{rowNumber, row-number}
 use borrow.Author.Needs.{needs}
 use Rattle.plan.proofs.row_at.Statement.{statement}
 use Rattle.plan.proofs.row_at.Tie as tie
-use Rattle.plan.proofs.row_at.Reads as reads
-use Rattle.plan.proofs.row_at.Lts as lts
-use Rattle.plan.proofs.number_at.Reads as number-at-reads
 
 number-at-requires : tie.Need-number-at-requires
 number-at-requires c κs = search needs

@@ -7,8 +7,6 @@ use borrow.Author.Tests.{le-leb, lt-leb}
 use borrow.Author.Needs.{needs}
 use Rattle.plan_pair.proofs.part.Statement.{statement}
 use Rattle.plan_pair.proofs.part.Tie as tie
-use Rattle.plan_pair.proofs.part.Reads as reads
-use Rattle.plan_pair.proofs.part.Lts as lts
 
 -- nothing is added to an address
 same-address : (p : ℕ × ℕ) → p ≡ (p .0, 0 + p .1)

@@ -7,10 +7,6 @@ use Rattle.plan_pair.specs.declared.RowLocation.{RowLocation}
 use borrow.Author.Needs.{needs}
 use Rattle.plan_pair.proofs.row_bytes.Statement.{statement}
 use Rattle.plan_pair.proofs.row_bytes.Tie as tie
-use Rattle.plan_pair.proofs.row_bytes.Reads as reads
-use Rattle.plan_pair.proofs.row_bytes.Lts as lts
-use Rattle.plan_pair.proofs.row_location.Reads as row-location-reads
-use Rattle.plan_pair.proofs.row_part.Reads as row-part-reads
 
 row-location-requires : tie.Need-row-location-requires
 row-location-requires c κs = search needs
@@ -23,10 +19,12 @@ unfolding rowBytesOf
 returns c =
     let a = c .before .before .before .before .args in
     let e = c .before .row-location .ensures in
-    let part = c .row-part .ensures in (
-      part .0 ∙ ap (partOf (now (a .site)) (now (a .house))) e,
-      (part .1 ∙ ap (addressOf (a .site) (a .house)) e, ap (λ (l : RowLocation). l .refusal) e),
-    )
+    let part = c .row-part .ensures in
+    record {
+      bytes = part .0 ∙ ap (partOf (now (a .site)) (now (a .house))) e;
+      address = part .1 ∙ ap (addressOf (a .site) (a .house)) e;
+      number = ap (λ (l : RowLocation). l .refusal) e;
+    }
 
 pub row-bytes-spec : {M : Type 1} → statement M
 row-bytes-spec = tie.close (tie.spec row-location-requires row-part-requires returns)

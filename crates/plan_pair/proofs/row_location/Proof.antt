@@ -13,13 +13,6 @@ use Rattle.plan_pair.specs.Pair.{noLocation, location, locationOf}
 use borrow.Author.Needs.{needs}
 use Rattle.plan_pair.proofs.row_location.Statement.{statement}
 use Rattle.plan_pair.proofs.row_location.Tie as tie
-use Rattle.plan_pair.proofs.row_location.Reads as reads
-use Rattle.plan_pair.proofs.row_location.Lts as lts
-use Rattle.plan.proofs.has_chute.Reads as has-chute-reads
-use Rattle.plan.proofs.read_whole.Reads as read-whole-reads
-use Rattle.plan_pair.proofs.located.Reads as located-reads
-use Rattle.plan_pair.proofs.refused.Reads as refused-reads
-use Rattle.plan_pair.proofs.smaller.Reads as smaller-reads
 
 -- what reading the two plans found is what the answer is set out by
 answered : (site house : List ℕ) (chute : ℕ) (p q : PlanRead) → p ≡ planAnswer chute (planOf site) → q ≡ planAnswer chute (planOf house) → location chute p q ≡ locationOf site house chute

@@ -5,9 +5,6 @@ use Rattle.plan_pair.specs.Pair.{partFrom, partIn, partOf}
 use borrow.Author.Needs.{needs}
 use Rattle.plan_pair.proofs.row_part.Statement.{statement}
 use Rattle.plan_pair.proofs.row_part.Tie as tie
-use Rattle.plan_pair.proofs.row_part.Reads as reads
-use Rattle.plan_pair.proofs.row_part.Lts as lts
-use Rattle.plan_pair.proofs.part.Reads as part-reads
 
 enum-told : tie.Need-enum-told
 enum-told c = search needs

@@ -4,12 +4,6 @@ use Prim.Native.Nat.{_≤_, _-_}
 use borrow.Author.Needs.{needs}
 use Rattle.plan_report.proofs.report.Statement.{statement}
 use Rattle.plan_report.proofs.report.Tie as tie
-use Rattle.plan.proofs.read_plan.Reads as read-plan-reads
-use Rattle.plan_report.proofs.refused_line.Reads as refused-line-reads
-use Rattle.plan_report.proofs.row_line.Reads as row-line-reads
-use Rattle.plan_report.proofs.rows_line.Reads as rows-line-reads
-use Rattle.plan_walk.proofs.start_at.Reads as start-at-reads
-use Rattle.plan_walk.proofs.step_at.Reads as step-at-reads
 
 abbrev Inv-loop : tie.InvT-loop
 Inv-loop plan rows at₀ chute₀ at chute = chute ≤ rows

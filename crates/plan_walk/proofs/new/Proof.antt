@@ -44,6 +44,7 @@ use denote.Triple.Walked.{says, Stays, stay-none-slice, walkOf, goes-none-slice,
 use denote.Exit.{yes}
 use denote.Triple.Clauses.{ensured, lasts}
 use Rattle.plan_walk.specs.Walk.{startOf}
+use Rattle.plan_walk.specs.Walker.{walkerAt}
 use Rattle.plan_walk.specs.declared.Walker.{Walker}
 use Rattle.plan_walk.specs.declared.Cursor.{Cursor}
 use Rattle.plan_walk.proofs.Walker as T
@@ -103,7 +104,7 @@ module _ {M : Type 1} (𝓤 : URA M) (H : Heap 𝓤) (A : Atoms 𝓤) (W : Given
       → ent 𝓤 (⋆ 𝓤 H A (‵ (S.the-row .own r (u ∷ [])) ∷ (‵ (flft κ q) ⊛ ‵ ftrue) ∷ ‵ Own ∷ [])) (Post (T′.lowered (made r)))
   exits r u e fits small =
       qed W (‵ (S.the-row .own r (u ∷ [])) ∷ (‵ (flft κ q) ⊛ ‵ ftrue) ∷ ‵ Own ∷ []) ∵
-      suffices ! _ (ends-at 𝓤 H A new.ended stayed (new.clauses 𝓤 H A mem run) W (((κ, tt), (q, tt), tt, (s, tt), at), tt) (T′.lowered (made r)) (made r) (tt, tt) (tt, tt)) $ says ! (refl, (ap (λ (x : Cursor). x .at) e, ap (λ (x : Cursor). x .refusal) e)) $
+      suffices ! _ (ends-at 𝓤 H A new.ended stayed (new.clauses 𝓤 H A mem run) W (((κ, tt), (q, tt), tt, (s, tt), at), tt) (T′.lowered (made r)) (made r) (tt, tt) (tt, tt)) $ says ! (ap (walkerAt s) e) $
       drop ! $ frame ! $ use1 W (‵ Own ⊛ ‵ Own) (shr-slice-copy 𝓤 H A W (named 0) κ u8 .twice s (v ∷ [])) $ split ! $ nothing ! $ move ! (1 ∷ 0 ∷ []) $ fjoin ! $ frame ! $
       -- [what plan owns]: what the fields own together, of it and of the numbers' facts, is what the struct owns
       nothing ! $ owned ! u8 (Is u8) (uint-makes 𝓤 H A W w8) (r .refusal) _ (refl, small) $ fjoin ! $ owned ! usize (Is usize) (uint-makes 𝓤 H A W w64) (r .at) _ (refl, fits) $ fjoin ! $ move ! (1 ∷ 0 ∷ []) $ fjoin ! $

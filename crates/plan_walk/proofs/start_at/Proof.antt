@@ -5,10 +5,6 @@ use Rattle.plan_walk.proofs.Walking.{startNumber, start-from}
 use borrow.Author.Needs.{needs}
 use Rattle.plan_walk.proofs.start_at.Statement.{statement}
 use Rattle.plan_walk.proofs.start_at.Tie as tie
-use Rattle.plan_walk.proofs.start_at.Reads as reads
-use Rattle.plan_walk.proofs.start_at.Lts as lts
-use Rattle.plan.proofs.number_at.Reads as number-at-reads
-use Rattle.plan.proofs.read_plan.Reads as read-plan-reads
 
 read-plan-requires : tie.Need-read-plan-requires
 read-plan-requires c κs = search needs

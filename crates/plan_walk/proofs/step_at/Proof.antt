@@ -7,10 +7,6 @@ use Rattle.plan_walk.proofs.Walking.{step-refused, step-from}
 use borrow.Author.Needs.{needs}
 use Rattle.plan_walk.proofs.step_at.Statement.{statement}
 use Rattle.plan_walk.proofs.step_at.Tie as tie
-use Rattle.plan_walk.proofs.step_at.Reads as reads
-use Rattle.plan_walk.proofs.step_at.Lts as lts
-use Rattle.plan.proofs.row_at.Reads as row-at-reads
-use Rattle.plan_walk.proofs.stays.Reads as stays-reads
 
 stays-requires : tie.Need-stays-requires
 stays-requires c κs = search needs

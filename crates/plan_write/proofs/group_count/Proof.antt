@@ -7,8 +7,6 @@ use borrow.Author.Needs.{needs}
 use Rattle.plan_write.proofs.Numbers.{GroupsLeft, left-start, left-more, left-last}
 use Rattle.plan_write.proofs.group_count.Statement.{statement}
 use Rattle.plan_write.proofs.group_count.Tie as tie
-use Rattle.plan_write.proofs.group_count.Reads as reads
-use Rattle.plan_write.proofs.group_count.Lts as lts
 
 abbrev Inv-loop : tie.InvT-loop
 Inv-loop v rest₀ count₀ rest count = (1 ≤ count) × GroupsLeft v rest (count - 1)

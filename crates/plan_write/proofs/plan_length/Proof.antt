@@ -11,9 +11,6 @@ use Rattle.plan_write.specs.RoundTrip.{groups-short}
 use Rattle.plan_write.proofs.Rows.{lengthFrom, length-start, length-many, length-more, length-large, length-end}
 use Rattle.plan_write.proofs.plan_length.Statement.{statement}
 use Rattle.plan_write.proofs.plan_length.Tie as tie
-use Rattle.plan_write.proofs.plan_length.Reads as reads
-use Rattle.plan_write.proofs.plan_length.Lts as lts
-use Rattle.plan_write.proofs.group_count.Reads as group-count-reads
 
 abbrev Inv-loop : tie.InvT-loop
 Inv-loop rows n₀ i₀ n i = (i ≤ length rows) × ((n ≤ 3 + 3 * i) × (lengthFrom n (drop i rows) ≡ lengthOf rows))

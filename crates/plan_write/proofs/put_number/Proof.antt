@@ -11,8 +11,6 @@ use Rattle.plan_write.specs.Write.{writtenGroups, writtenNumber}
 use Rattle.plan_write.proofs.Numbers.{GroupsLeft, left-start, left-some, left-more, left-last, left-room, sets-more, sets-last}
 use Rattle.plan_write.proofs.put_number.Statement.{statement}
 use Rattle.plan_write.proofs.put_number.Tie as tie
-use Rattle.plan_write.proofs.put_number.Reads as reads
-use Rattle.plan_write.proofs.put_number.Lts as lts
 
 abbrev Inv-loop : tie.InvT-loop
 Inv-loop out₀ at v rest₀ next₀ out rest next =

@@ -12,9 +12,6 @@ use Rattle.plan_write.specs.Write.{writtenNumber, writtenRows, rowsAllow
 use Rattle.plan_write.proofs.Rows.{row-room, rows-sets, rows-end, first-allowed, others-allowed}
 use Rattle.plan_write.proofs.put_rows.Statement.{statement}
 use Rattle.plan_write.proofs.put_rows.Tie as tie
-use Rattle.plan_write.proofs.put_rows.Reads as reads
-use Rattle.plan_write.proofs.put_rows.Lts as lts
-use Rattle.plan_write.proofs.put_number.Reads as put-number-reads
 
 abbrev Inv-loop : tie.InvT-loop
 Inv-loop rows out₀ first at₀ i₀ out at i =

@@ -11,11 +11,6 @@ use Rattle.plan_write.proofs.Rows.{known-length, known-rows, other-leng
 use borrow.Author.Needs.{needs}
 use Rattle.plan_write.proofs.write_plan.Statement.{statement}
 use Rattle.plan_write.proofs.write_plan.Tie as tie
-use Rattle.plan_write.proofs.write_plan.Reads as reads
-use Rattle.plan_write.proofs.write_plan.Lts as lts
-use Rattle.plan_write.proofs.plan_length.Reads as plan-length-reads
-use Rattle.plan_write.proofs.put_number.Reads as put-number-reads
-use Rattle.plan_write.proofs.put_rows.Reads as put-rows-reads
 
 plan-length-requires : tie.Need-plan-length-requires
 plan-length-requires c κs = search needs

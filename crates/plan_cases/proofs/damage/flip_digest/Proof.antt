@@ -6,7 +6,6 @@ use lib.ListN.{length}
 use borrow.Author.Needs.{needs}
 use Rattle.plan_cases.proofs.damage.flip_digest.Statement.{statement}
 use Rattle.plan_cases.proofs.damage.flip_digest.Tie as tie
-use Rattle.plan_cases.proofs.show.digest.Reads as digest-reads
 
 abbrev Inv-loop : tie.InvT-loop
 Inv-loop plan₀ place old total₀ mask₀ plan total mask = (mask ≤ 256) × (length plan ≡ length plan₀)

@@ -6,10 +6,6 @@ use lib.ListN.{length}
 use borrow.Author.Needs.{needs}
 use Rattle.plan_cases.proofs.damage.flipped.Statement.{statement}
 use Rattle.plan_cases.proofs.damage.flipped.Tie as tie
-use Rattle.plan_cases.proofs.damage.flip_digest.Reads as flip-digest-reads
-use Rattle.plan_cases.proofs.damage.flip_top_bit.Reads as flip-top-bit-reads
-use Rattle.plan_cases.proofs.show.end.Reads as end-reads
-use Rattle.plan_cases.proofs.show.number.Reads as number-reads
 
 abbrev Inv-loop : tie.InvT-loop
 Inv-loop plan₀ size place₀ plan place = (place ≤ size) × (length plan ≡ size)

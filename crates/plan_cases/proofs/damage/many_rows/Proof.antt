@@ -4,10 +4,6 @@ use mathlib.Core.Path.{_∙_}
 use borrow.Author.Needs.{needs}
 use Rattle.plan_cases.proofs.damage.many_rows.Statement.{statement}
 use Rattle.plan_cases.proofs.damage.many_rows.Tie as tie
-use Rattle.plan_cases.proofs.damage.count.Reads as count-reads
-use Rattle.plan_cases.proofs.damage.fill.Reads as fill-reads
-use Rattle.plan_cases.proofs.damage.prefix_digest.Reads as prefix-digest-reads
-use Rattle.plan_cases.proofs.damage.prefix_line.Reads as prefix-line-reads
 
 fill-requires : tie.Need-fill-requires
 fill-requires c κs = search needs

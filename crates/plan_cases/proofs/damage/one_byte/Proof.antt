@@ -6,7 +6,6 @@ use lib.ListN.{length}
 use borrow.Author.Needs.{needs}
 use Rattle.plan_cases.proofs.damage.one_byte.Statement.{statement}
 use Rattle.plan_cases.proofs.damage.one_byte.Tie as tie
-use Rattle.plan_cases.proofs.show.line.Reads as line-reads
 
 abbrev Inv-loop : tie.InvT-loop
 Inv-loop plan₀ first₀ plan first = (first ≤ 256) × (length plan ≡ 1)

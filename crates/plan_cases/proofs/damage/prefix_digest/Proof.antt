@@ -5,9 +5,6 @@ use lib.ListN.{length-take}
 use borrow.Author.Needs.{needs}
 use Rattle.plan_cases.proofs.damage.prefix_digest.Statement.{statement}
 use Rattle.plan_cases.proofs.damage.prefix_digest.Tie as tie
-use Rattle.plan_cases.proofs.show.digest.Reads as digest-reads
-use Rattle.plan_cases.proofs.show.end.Reads as end-reads
-use Rattle.plan_cases.proofs.show.number.Reads as number-reads
 
 slice-aggregate-digest : tie.Need-slice-aggregate-digest
 slice-aggregate-digest c = simp length-take (omega arith)

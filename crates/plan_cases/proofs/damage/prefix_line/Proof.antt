@@ -5,7 +5,6 @@ use lib.ListN.{length-take}
 use borrow.Author.Needs.{needs}
 use Rattle.plan_cases.proofs.damage.prefix_line.Statement.{statement}
 use Rattle.plan_cases.proofs.damage.prefix_line.Tie as tie
-use Rattle.plan_cases.proofs.show.line.Reads as line-reads
 
 slice-aggregate-line : tie.Need-slice-aggregate-line
 slice-aggregate-line c = simp length-take (omega arith)

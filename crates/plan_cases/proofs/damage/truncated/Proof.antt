@@ -6,7 +6,6 @@ use lib.ListN.{length, length-take}
 use borrow.Author.Needs.{needs}
 use Rattle.plan_cases.proofs.damage.truncated.Statement.{statement}
 use Rattle.plan_cases.proofs.damage.truncated.Tie as tie
-use Rattle.plan_cases.proofs.show.line.Reads as line-reads
 
 abbrev Inv-loop : tie.InvT-loop
 Inv-loop plan size₀ size = size ≤ length plan + 1

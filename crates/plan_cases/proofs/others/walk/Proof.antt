@@ -4,11 +4,6 @@ use Prim.Native.Nat.{_≤_, _-_}
 use borrow.Author.Needs.{needs}
 use Rattle.plan_cases.proofs.others.walk.Statement.{statement}
 use Rattle.plan_cases.proofs.others.walk.Tie as tie
-use Rattle.plan_cases.proofs.show.answer.Reads as answer-reads
-use Rattle.plan_cases.proofs.show.end.Reads as end-reads
-use Rattle.plan_cases.proofs.show.space.Reads as space-reads
-use Rattle.plan_walk.proofs.start_at.Reads as start-at-reads
-use Rattle.plan_walk.proofs.step_at.Reads as step-at-reads
 
 abbrev Inv-loop : tie.InvT-loop
 Inv-loop plan refusal at₀ asks₀ at asks = asks ≤ 12

@@ -5,12 +5,6 @@ use lib.ListN.{length-take}
 use borrow.Author.Needs.{needs}
 use Rattle.plan_cases.proofs.others.write_lent.Statement.{statement}
 use Rattle.plan_cases.proofs.others.write_lent.Tie as tie
-use Rattle.plan_cases.proofs.show.bytes_digest.Reads as bytes-digest-reads
-use Rattle.plan_cases.proofs.show.end.Reads as end-reads
-use Rattle.plan_cases.proofs.show.line.Reads as line-reads
-use Rattle.plan_cases.proofs.show.number.Reads as number-reads
-use Rattle.plan_cases.proofs.show.space.Reads as space-reads
-use Rattle.plan_write.proofs.write_plan.Reads as write-plan-reads
 
 returns : tie.Need-returns
 returns c = search needs

@@ -5,8 +5,6 @@ use lib.ListN.{length-take}
 use borrow.Author.Needs.{needs}
 use Rattle.plan_cases.proofs.others.write_many.Statement.{statement}
 use Rattle.plan_cases.proofs.others.write_many.Tie as tie
-use Rattle.plan_cases.proofs.others.fill.Reads as fill-reads
-use Rattle.plan_cases.proofs.others.write.Reads as write-reads
 
 fill-requires : tie.Need-fill-requires
 fill-requires c κs = search needs

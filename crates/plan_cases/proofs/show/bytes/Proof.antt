@@ -5,9 +5,6 @@ use lib.ListN.{length}
 use borrow.Author.Needs.{needs}
 use Rattle.plan_cases.proofs.show.bytes.Statement.{statement}
 use Rattle.plan_cases.proofs.show.bytes.Tie as tie
-use Rattle.plan_cases.proofs.show.number.Reads as number-reads
-use Rattle.plan_cases.proofs.show.space.Reads as space-reads
-use Rattle.plan_cases.proofs.show.wide.Reads as wide-reads
 
 abbrev Inv-loop : tie.InvT-loop
 Inv-loop list i₀ i = i ≤ length list

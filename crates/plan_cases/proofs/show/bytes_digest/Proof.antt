@@ -5,8 +5,6 @@ use lib.ListN.{length}
 use borrow.Author.Needs.{needs}
 use Rattle.plan_cases.proofs.show.bytes_digest.Statement.{statement}
 use Rattle.plan_cases.proofs.show.bytes_digest.Tie as tie
-use Rattle.plan_cases.proofs.show.mix.Reads as mix-reads
-use Rattle.plan_cases.proofs.show.wide.Reads as wide-reads
 
 abbrev Inv-loop : tie.InvT-loop
 Inv-loop bytes sum₀ i₀ sum i = i ≤ length bytes

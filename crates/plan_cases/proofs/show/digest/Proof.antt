@@ -4,9 +4,6 @@ use Prim.Native.Nat.{_≤_, _-_}
 use borrow.Author.Needs.{needs}
 use Rattle.plan_cases.proofs.show.digest.Statement.{statement}
 use Rattle.plan_cases.proofs.show.digest.Tie as tie
-use Rattle.plan.proofs.destination.Reads as destination-reads
-use Rattle.plan.proofs.read_plan.Reads as read-plan-reads
-use Rattle.plan_cases.proofs.show.mix.Reads as mix-reads
 
 abbrev Inv-loop : tie.InvT-loop
 Inv-loop plan total chutes sum₀ i₀ sum i = i ≤ chutes

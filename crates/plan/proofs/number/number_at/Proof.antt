@@ -8,11 +8,8 @@ use denote.Ref.{now}
 use lib.ListN.{drop}
 use Rattle.plan.specs.Number.{groups, number, numberAnswer, limit}
 use Rattle.plan.proofs.Numbers.{above, above-none, turn-end, turn-last, turn-over, turn-more, unit-small, group-small, unit-next}
-use Rattle.plan.proofs.number_at.Statement.{statement}
-use Rattle.plan.proofs.number_at.Tie as tie
-use Rattle.plan.proofs.number_at.Reads as reads
-use Rattle.plan.proofs.number_at.Lts as lts
-use Rattle.plan.proofs.wide.Reads as wide-reads
+use Rattle.plan.proofs.number.number_at.Statement.{statement}
+use Rattle.plan.proofs.number.number_at.Tie as tie
 
 abbrev Inv-loop : tie.InvT-loop
 Inv-loop bytes at low₀ unit₀ more₀ next₀ low unit more next =
