@@ -1,4 +1,5 @@
--- Chute 0 fails the definition's first test, and any other passes it: what is left is the second test.
+-- Chute 0 fails the first test of the definition.
+-- Any other chute passes it, and what is left is the second test.
 use native.Mathlib.Omega.{arith}
 use borrow.Author.Tests.{le-leb, lt-leb}
 use Prim.Native.Nat.{_≤_, _<_}
