@@ -164,7 +164,7 @@ def damaged(out):
 
 def edges(out):
     out("padded")
-    for data in ("018700", "01878000", "01878080", "810007", "81800007", "8000", "808000", "01FFFF7F", "01808000"):
+    for data in ("018700", "01878000", "01878080", "01FFFF7F", "01808000", "810007", "81800007", "8000", "808000"):
         out(line_of(bytes.fromhex(data)))
     out("fourth group")
     for data in ("0180808000", "01FFFFFF7F", "80808000", "8180800007", "01FFFF80", "01FFFFFF"):
@@ -177,9 +177,9 @@ def edges(out):
 def many_rows(out):
     out("many rows")
     body = bytes((7 * i + 3) % 128 for i in range(4098))
-    for count, size in ((4095, 4095), (4096, 4095), (4096, 4096), (4096, 4097), (4097, 4096), (4097, 4097), (4097, 4098)):
-        data = write_number(count) + body[:size]
-        out(line_of(data))
+    for count in (4095, 4097, 4096):
+        for size in (4095, 4096, 4097, 4098):
+            out(line_of(write_number(count) + body[:size]))
     out(str(digest(write_number(4096) + body[:4096], 1, 4100)))
     out("long")
     for size in (65535, 65536, 65537, 65600):
@@ -226,7 +226,7 @@ def written(out):
 def walked(out):
     """Asks of a walker, one after another: on a refused plan its number, past the last row 10."""
     out("walked")
-    for data in (bytes.fromhex("0307AC0200"), b"\x00", write(SAMPLE_ROWS), bytes.fromhex("0180808000"), bytes.fromhex("018700"), b"", bytes(65537), bytes.fromhex("0000")):
+    for data in (bytes.fromhex("0307AC0200"), b"\x00", write(SAMPLE_ROWS), bytes.fromhex("018700"), bytes.fromhex("0180808000"), b"", bytes(65537), bytes.fromhex("0000")):
         refusal, rows = plan(data)
         answers = []
         for ask in range(12):

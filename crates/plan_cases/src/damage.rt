@@ -81,20 +81,20 @@ fn count(plan: &mut [u8], low: u8, high: u8) {
     }
 }
 
-// The first two bytes are the number of rows: 4,095, 4,096 and 4,097.
-pub fn many_rows(plan: &mut [u8]) {
-    fill(plan);
-    count(plan, 255, 31);
+// The first two bytes are the number of rows: 4,095, 4,096 or 4,097.
+fn counted(plan: &mut [u8], low: u8, high: u8) {
+    count(plan, low, high);
     prefix_line(&plan[..], 4097);
-    count(plan, 128, 32);
-    prefix_line(&plan[..], 4097);
-    prefix_line(&plan[..], 4098);
-    prefix_line(&plan[..], 4099);
-    count(plan, 129, 32);
     prefix_line(&plan[..], 4098);
     prefix_line(&plan[..], 4099);
     prefix_line(&plan[..], 4100);
-    count(plan, 128, 32);
+}
+
+pub fn many_rows(plan: &mut [u8]) {
+    fill(plan);
+    counted(plan, 255, 31);
+    counted(plan, 129, 32);
+    counted(plan, 128, 32);
     prefix_digest(&plan[..], 4098);
 }
 

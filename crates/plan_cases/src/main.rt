@@ -59,12 +59,16 @@ fn padded() {
     show::line(b"\x01\x87\x00");
     show::line(b"\x01\x87\x80\x00");
     show::line(b"\x01\x87\x80\x80");
+    show::line(b"\x01\xFF\xFF\x7F");
+    show::line(b"\x01\x80\x80\x00");
+    padded_counts();
+}
+
+fn padded_counts() {
     show::line(b"\x81\x00\x07");
     show::line(b"\x81\x80\x00\x07");
     show::line(b"\x80\x00");
     show::line(b"\x80\x80\x00");
-    show::line(b"\x01\xFF\xFF\x7F");
-    show::line(b"\x01\x80\x80\x00");
 }
 
 fn fourth_group() {
@@ -107,14 +111,22 @@ fn pairs() {
     show::heading(b"pairs");
     let site = b"\x02\xAC\x02\x07";
     let house = b"\x04\x80\x01\x01\x80\x80\x01\x09";
+    pairs_of(site, house, b"\x00", b"\x01\x80\x80");
+}
+
+fn pairs_of<'a>(site: &'a [u8], house: &'a [u8], none: &'a [u8], bad: &'a [u8]) {
     others::pair(site, house);
     others::pair(house, site);
-    pairs_with_none(site, house, b"\x00");
-    pairs_refused(site, b"\x01\x80\x80");
+    pairs_with_none(site, house, none);
+    pairs_refused(site, bad);
+    pairs_long(site, bad);
+    others::pair(&site[..0], site);
+    others::pair(site, &site[..0]);
+}
+
+fn pairs_long<'a>(site: &'a [u8], bad: &'a [u8]) {
     let long = [0u8; 65537];
-    pairs_refused_5(site, b"\x01\x80\x80", &long);
-    others::pair(b"", site);
-    others::pair(site, b"");
+    pairs_refused_5(site, bad, &long);
 }
 
 fn pairs_with_none<'a>(site: &'a [u8], house: &'a [u8], none: &'a [u8]) {
@@ -173,8 +185,12 @@ fn walked() {
     others::walk(b"\x03\x07\xAC\x02\x00");
     others::walk(b"\x00");
     others::walk(b"\x08\x00\x01\x7F\x80\x01\xAC\x02\xFF\x7F\x80\x80\x01\xFF\xFF\x7F");
-    others::walk(b"\x01\x80\x80\x80\x00");
     others::walk(b"\x01\x87\x00");
+    walked_refused();
+}
+
+fn walked_refused() {
+    others::walk(b"\x01\x80\x80\x80\x00");
     others::walk(b"");
     let long = [0u8; 65537];
     others::walk(&long);
