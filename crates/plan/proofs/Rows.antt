@@ -1,0 +1,133 @@
+-- Laws of the rows read one after another: from the row reader's answer back to the number, and what the lookup keeps while rows are read.
+use mathlib.Core.Path.{_≡_, refl, sym, ap, subst, _∙_}
+use mathlib.Core.List.{List, [], _∷_}
+use mathlib.Core.Bool.{Bool, true, false, cond}
+use Prim.Native.Nat.{ℕ, zero, suc, _+_, _-_, _≤_, _<_}
+use native.Mathlib.Omega.{arith}
+use lib.ListN.{length, getD, drop, drop-of-length-le}
+use lib.Dec.{ltb, leb, eqb}
+use borrow.Author.Tests.{eq-eqb, ne-eqb, le-leb, lt-leb, lt-ltb, le-ltb}
+use Rattle.plan.specs.Number.{Parsed, value, bad, groups, number, numberAnswer}
+use Rattle.plan.specs.NumberLaws.{Rest, groups-rest}
+use Rattle.plan.specs.Plan.{row, rowAnswer, Plan, rows, refused, malformed, consRow, afterNumber, rowsFrom, planIn, planOf, noRow, rowAt, planAnswer}
+use Rattle.plan.specs.declared.number.Number.{Number}
+use Rattle.plan.specs.declared.number.Number.the-variants.{Value, Bad}
+use Rattle.plan.specs.declared.Row.{Row}
+use Rattle.plan.specs.declared.RowRead.{RowRead}
+use Rattle.plan.specs.declared.RowRead.the-variants.{Found, NotRow}
+use Rattle.plan.specs.declared.PlanRead.{PlanRead}
+use Rattle.plan.specs.declared.PlanRead.the-variants.{Rows, Refused}
+use Rattle.plan.proofs.Numbers.{here}
+
+-- the row reader: its answer from the number's, and back
+abbrev pub rowNumber : ℕ → Number → RowRead
+rowNumber at (Value v next) = Found (row v at next)
+rowNumber at (Bad place) = NotRow place
+
+pub row-number : (at : ℕ) (p : Parsed) → rowNumber at (numberAnswer p) ≡ rowAnswer at p
+row-number at (value v next rest) = refl
+row-number at (bad place) = refl
+
+row-known : (at : ℕ) (s : List ℕ) (p : Parsed) (r : Row) → Rest at s p → rowAnswer at p ≡ Found r
+    → (p ≡ value (r .destination) (r .end) (drop (r .end) s)) × (r ≡ row (r .destination) at (r .end))
+row-known at s (value v n rest) r u e =
+    let er : row v at n ≡ r = cc in
+    subst (λ (q : Row). (value v n rest ≡ value (q .destination) (q .end) (drop (q .end) s)) × (q ≡ row (q .destination) at (q .end))) er (ap (value v n) (u .1), refl)
+row-known at s (bad place) r u e = let z : _≡_ {A = ℕ} 0 1 = cc in absurd (omega arith)
+
+pub row-found : (at : ℕ) (s : List ℕ) (r : Row) → rowAnswer at (number at (drop at s)) ≡ Found r
+    → (number at (drop at s) ≡ value (r .destination) (r .end) (drop (r .end) s)) × (r ≡ row (r .destination) at (r .end))
+row-found at s r e = row-known at s (number at (drop at s)) r (groups-rest 2 at s) e
+
+pub row-none : (at : ℕ) (p : Parsed) (place : ℕ) → rowAnswer at p ≡ NotRow place → p ≡ bad place
+row-none at (value v n rest) place e = cc
+row-none at (bad place′) place e = cc
+
+-- the row that the lookup keeps after rows numbered from i + 1, where it kept d before them
+pub keptRow : ℕ → ℕ → Row → List Row → Row
+keptRow c i d [] = d
+keptRow c i d (r ∷ l) = keptRow c (i + 1) (cond (eqb (i + 1) c) r d) l
+
+-- what the lookup keeps while rows are read: i rows read, d kept of them, and the rest of the plan to come
+abbrev pub keeping : ℕ → ℕ → Row → Plan → PlanRead
+keeping c i d (rows l) = Rows (i + length l) (keptRow c i d l)
+keeping c i d (refused n place) = Refused n place
+
+kept-past : (c i : ℕ) (d : Row) (l : List Row) → c ≤ i → keptRow c i d l ≡ d
+unfolding keptRow
+kept-past c i d [] h = refl
+kept-past c i d (r ∷ l) h =
+    let n : i + 1 ≡ c → ⊥ = λ e. omega arith in
+    rw (ne-eqb _ _ n) (kept-past c (i + 1) d l (omega arith))
+
+kept-at : (c i k : ℕ) (d : Row) (l : List Row) → c ≡ i + 1 + k → keptRow c i d l ≡ getD l k d
+unfolding keptRow
+kept-at c i k d [] e = refl
+kept-at c i zero d (r ∷ l) e =
+    let n : i + 1 ≡ c = omega arith in
+    rw (eq-eqb _ _ n) (kept-past c (i + 1) r l (omega arith))
+kept-at c i (suc k) d (r ∷ l) e =
+    let n : i + 1 ≡ c → ⊥ = λ q. omega arith in
+    rw (ne-eqb _ _ n) (kept-at c (i + 1) k d l (omega arith))
+
+kept-first : (c : ℕ) (l : List Row) → keptRow c 0 noRow l ≡ rowAt c l
+kept-first zero l = kept-past 0 0 noRow l (omega arith)
+kept-first (suc c) l = kept-at (suc c) 0 c noRow l (omega arith)
+
+pub keeping-start : (c : ℕ) (p : Plan) → keeping c 0 noRow p ≡ planAnswer c p
+keeping-start c (rows l) = let e : 0 + length l ≡ length l = omega arith in rw (e, kept-first)
+keeping-start c (refused n place) = refl
+
+keeping-row : (c i : ℕ) (d r : Row) (p : Plan) → keeping c i d (consRow r p) ≡ keeping c (i + 1) (cond (eqb (i + 1) c) r d) p
+unfolding keptRow
+keeping-row c i d r (rows l) = let e : i + suc (length l) ≡ i + 1 + length l = omega arith in rw e
+keeping-row c i d r (refused n place) = refl
+
+module _ (c i at n : ℕ) (d : Row) (s : List ℕ) where
+  -- a turn that reads a row
+  pub keeping-more : (r : Row) → i < n → rowAnswer at (number at (drop at s)) ≡ Found r
+      → keeping c i d (rowsFrom (n - i) at (drop at s)) ≡ keeping c (i + 1) (cond (eqb (i + 1) c) r d) (rowsFrom (n - (i + 1)) (r .end) (drop (r .end) s))
+  unfolding rowsFrom
+  keeping-more r h e =
+      let k : n - i ≡ suc (n - (i + 1)) = omega arith in
+      let f = row-found at s r e in
+      rw (k, f .0, ← (f .1)) (keeping-row c i d r (rowsFrom (n - (i + 1)) (r .end) (drop (r .end) s)))
+
+  -- a turn that finds anything but a row
+  pub keeping-bad : (place : ℕ) → i < n → rowAnswer at (number at (drop at s)) ≡ NotRow place → keeping c i d (rowsFrom (n - i) at (drop at s)) ≡ Refused 9 place
+  unfolding rowsFrom
+  keeping-bad place h e =
+      let k : n - i ≡ suc (n - (i + 1)) = omega arith in
+      rw (k, row-none at (number at (drop at s)) place e)
+
+  -- after the last row: bytes are left, or none
+  pub keeping-over : n ≤ i → at < length s → keeping c i d (rowsFrom (n - i) at (drop at s)) ≡ Refused 9 at
+  unfolding rowsFrom
+  keeping-over h l = let k : n - i ≡ zero = omega arith in rw (k, here at s l)
+
+  pub keeping-done : n ≤ i → length s ≤ at → keeping c i d (rowsFrom (n - i) at (drop at s)) ≡ Rows i d
+  unfolding rowsFrom keptRow
+  keeping-done h l = let k : n - i ≡ zero = omega arith in let z : i + 0 ≡ i = omega arith in rw (k, drop-of-length-le s l, z)
+
+-- a plan read whole, by its length and its first number
+module _ (c : ℕ) (s : List ℕ) where
+  pub whole-long : 65536 < length s → planAnswer c (planOf s) ≡ Refused 5 0
+  unfolding planOf
+  whole-long h = rw (lt-ltb _ _ h)
+
+  abbrev pub rowsAfter : Number → PlanRead
+  rowsAfter (Value v next) = cond (leb v 4096) (planAnswer c (rowsFrom v next (drop next s))) (Refused 9 0)
+  rowsAfter (Bad place) = Refused 9 place
+
+  rows-cond : (t : Bool) (p : Plan) → cond t (planAnswer c p) (Refused 9 0) ≡ planAnswer c (cond t p (malformed 0))
+  rows-cond true p = refl
+  rows-cond false p = refl
+
+  after-number : (p : Parsed) → Rest 0 s p
+      → rowsAfter (numberAnswer p) ≡ planAnswer c (afterNumber p (λ count next rest. cond (leb count 4096) (rowsFrom count next rest) (malformed 0)))
+  after-number (value v next rest) u = rw (← (u .1)) (rows-cond (leb v 4096) (rowsFrom v next rest))
+  after-number (bad place) u = refl
+
+  pub whole-after : length s ≤ 65536 → rowsAfter (numberAnswer (number 0 (drop 0 s))) ≡ planAnswer c (planOf s)
+  unfolding planOf
+  whole-after h = rw (le-ltb _ _ h) (after-number (number 0 s) (groups-rest 2 0 s))

@@ -1,0 +1,28 @@
+-- The answer is set out by the cases of what reading the plan whole finds, and each arm of the match is one of them.
+-- Which chute's row is kept plays no part: 0 keeps none.
+use mathlib.Core.Path.{_≡_, sym, ap, _∙_}
+use Rattle.plan.specs.Answers.{summary, summaryOf}
+use borrow.Author.Needs.{needs}
+use Rattle.plan.proofs.read_plan.Statement.{statement}
+use Rattle.plan.proofs.read_plan.Tie as tie
+
+read-whole-requires : tie.Need-read-whole-requires
+read-whole-requires c κs = search needs
+
+enum-known-count : tie.Need-enum-known-count
+enum-known-count c = search needs
+
+enum-known-refusal : tie.Need-enum-known-refusal
+enum-known-refusal c = search needs
+
+returns : tie.Need-returns
+unfolding summaryOf
+returns c = sym (ap summary (c .before .count .given .1)) ∙ ap summary (c .before .before .before .read-whole .ensures)
+
+returns-2 : tie.Need-returns-2
+unfolding summaryOf
+returns-2 c = sym (ap summary (c .before .refusal .given .1)) ∙ ap summary (c .before .before .before .read-whole .ensures)
+
+pub read-plan-spec : {M : Type 1} → statement M
+read-plan-spec =
+    tie.close (tie.spec read-whole-requires enum-known-count enum-known-refusal returns returns-2)

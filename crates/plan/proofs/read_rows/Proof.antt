@@ -1,0 +1,108 @@
+-- What the lookup keeps of the rows read, with the rows to come, makes the answer: a turn that reads a row keeps this, any other ends the reading.
+-- After the last row the answer hangs on whether bytes are left.
+use mathlib.Core.Path.{_≡_, refl, sym, ap, _∙_}
+use Prim.Native.Nat.{ℕ, _≤_, _<_, _-_, _+_}
+use native.Mathlib.Omega.{arith}
+use borrow.Author.Needs.{needs}
+use denote.Ref.{now}
+use lib.ListN.{drop}
+use Rattle.plan.specs.Plan.{placeOf, rowsFrom, planAnswer}
+use Rattle.plan.specs.declared.PlanRead.the-variants.{Rows, Refused}
+use Rattle.plan.proofs.Rows.{keeping, keeping-start, keeping-more, keeping-bad, keeping-over, keeping-done}
+use Rattle.plan.proofs.read_rows.Statement.{statement}
+use Rattle.plan.proofs.read_rows.Tie as tie
+
+abbrev Inv-loop : tie.InvT-loop
+Inv-loop plan first count chute found₀ at₀ i₀ found at i =
+    (i ≤ count) × (keeping chute i found (rowsFrom (count - i) at (drop at plan)) ≡ planAnswer chute (rowsFrom count first (drop first plan)))
+
+abbrev μ-loop : tie.MeasureT-loop
+μ-loop plan first count chute found₀ at₀ i₀ found at i = count - i
+
+loop-holds : tie.Need-loop-holds Inv-loop μ-loop
+loop-holds c =
+    let a = c .before .args in
+    let e : a .count - 0 ≡ a .count = omega arith in
+    (omega arith, rw e (keeping-start (a .chute) (rowsFrom (a .count) (a .first) (drop (a .first) (now (a .plan))))))
+
+row-at-requires : tie.Need-row-at-requires Inv-loop μ-loop
+row-at-requires c κs = search needs
+
+enum-known-read : tie.Need-enum-known-read Inv-loop μ-loop
+enum-known-read c = search needs
+
+enum-told : tie.Need-enum-told Inv-loop μ-loop
+enum-told c = search needs
+
+place-of-requires : tie.Need-place-of-requires Inv-loop μ-loop
+place-of-requires c κs = search needs
+
+malformed-requires : tie.Need-malformed-requires Inv-loop μ-loop
+malformed-requires c κs = search needs
+
+returns : tie.Need-returns Inv-loop μ-loop
+returns c =
+    let a = c .before .before .before .before .before .before .before .before .args in
+    let l = c .before .before .before .before .before .before .loop in
+    let told = c .before .before .enum-told .given in
+    c .malformed .ensures ∙ ap (Refused 9) (c .before .place-of .ensures ∙ ap placeOf (told .1))
+    ∙ sym (keeping-bad (a .chute) (l .i) (l .at) (a .count) (l .found) (now (a .plan)) (told .0 .0) (c .before .before .before .before .before .loop-test .taken) (sym (c .before .before .before .before .row-at .ensures) ∙ told .1))
+    ∙ l .inv .1
+
+add-i : tie.Need-add-i Inv-loop μ-loop
+add-i c = search needs
+
+kept-requires : tie.Need-kept-requires Inv-loop μ-loop
+kept-requires c κs = search needs
+
+loop-less : tie.Need-loop-less Inv-loop μ-loop
+loop-less c = search needs
+
+loop-again : tie.Need-loop-again Inv-loop μ-loop
+loop-again c =
+    let a = c .before .before .before .before .before .before .before .before .args in
+    let l = c .before .before .before .before .before .before .loop in
+    let got = c .before .before .read .given in (
+      omega arith,
+      rw (c .kept .ensures)
+          (sym (keeping-more (a .chute) (l .i) (l .at) (a .count) (l .found) (now (a .plan)) (got .0 .0) (c .before .before .before .before .before .loop-test .taken) (sym (c .before .before .before .before .row-at .ensures) ∙ got .1))
+          ∙ l .inv .1),
+    )
+
+malformed-requires-2 : tie.Need-malformed-requires-2 Inv-loop μ-loop
+malformed-requires-2 c κs = search needs
+
+returns-2 : tie.Need-returns-2 Inv-loop μ-loop
+returns-2 c =
+    let a = c .before .before .before .before .before .args in
+    let l = c .before .before .before .loop in
+    c .malformed2 .ensures ∙ sym (keeping-over (a .chute) (l .i) (l .at) (a .count) (l .found) (now (a .plan)) (c .before .before .loop-test .left) (c .before .if1 .taken)) ∙ l .inv .1
+
+returns-3 : tie.Need-returns-3 Inv-loop μ-loop
+returns-3 c =
+    let a = c .before .before .before .before .args in
+    let l = c .before .before .loop in
+    let e : a .count ≡ l .i = omega arith in
+    ap (λ (n : ℕ). Rows n (l .found)) e
+    ∙ sym (keeping-done (a .chute) (l .i) (l .at) (a .count) (l .found) (now (a .plan)) (c .before .loop-test .left) (c .if1 .left)) ∙ l .inv .1
+
+pub read-rows-spec : {M : Type 1} → statement M
+read-rows-spec =
+    tie.close
+    (tie.spec
+    Inv-loop
+    μ-loop
+    loop-holds
+    row-at-requires
+    enum-known-read
+    enum-told
+    place-of-requires
+    malformed-requires
+    returns
+    add-i
+    kept-requires
+    loop-less
+    loop-again
+    malformed-requires-2
+    returns-2
+    returns-3)

@@ -1,0 +1,69 @@
+-- A long plan is refused before it is read. Else the plan hangs on its first number, by the definition's own cases: too many rows, the rows that
+-- `read_rows` reads, or no number.
+use mathlib.Core.Path.{_≡_, refl, sym, ap, _∙_}
+use mathlib.Core.Bool.{true, false}
+use native.Mathlib.Omega.{arith}
+use denote.Ref.{now}
+use borrow.Author.Tests.{le-leb, lt-leb}
+use Rattle.plan.specs.Plan.{planOf, planAnswer}
+use Rattle.plan.specs.declared.number.Number.the-variants.{Value, Bad}
+use Rattle.plan.specs.declared.PlanRead.the-variants.{Refused}
+use Rattle.plan.proofs.Rows.{rowsAfter, whole-long, whole-after}
+use borrow.Author.Needs.{needs}
+use Rattle.plan.proofs.read_whole.Statement.{statement}
+use Rattle.plan.proofs.read_whole.Tie as tie
+
+-- what the plan is after its first number
+after : (c : tie.After-value) → let a = c .before .before .before .before .before .args in rowsAfter (a .chute) (now (a .plan)) (Value (c .value .given .0 .0) (c .value .given .0 .1 .0)) ≡ planAnswer (a .chute) (planOf (now (a .plan)))
+after c =
+    let a = c .before .before .before .before .before .args in
+    let f = rowsAfter (a .chute) (now (a .plan)) in
+    sym (ap f (c .value .given .1)) ∙ ap f (c .before .before .number-at .ensures) ∙ whole-after (a .chute) (now (a .plan)) (c .before .before .before .if1 .left)
+
+returns : tie.Need-returns
+returns c = sym (whole-long _ _ (c .if1 .taken))
+
+number-at-requires : tie.Need-number-at-requires
+number-at-requires c κs = search needs
+
+enum-known-value : tie.Need-enum-known-value
+enum-known-value c = search needs
+
+malformed-requires : tie.Need-malformed-requires
+malformed-requires c κs = search needs
+
+returns-2 : tie.Need-returns-2
+returns-2 c = c .malformed .ensures ∙ (rw (lt-leb _ _ (c .before .if2 .taken))) ∙ after (c .before .before .before)
+
+read-rows-requires : tie.Need-read-rows-requires
+read-rows-requires c κs = search needs
+
+enum-known-place : tie.Need-enum-known-place
+enum-known-place c = search needs
+
+malformed-requires-2 : tie.Need-malformed-requires-2
+malformed-requires-2 c κs = search needs
+
+returns-3 : tie.Need-returns-3
+returns-3 c = c .read-rows .ensures ∙ (rw (le-leb _ _ (c .before .if2 .left))) ∙ after (c .before .before .before)
+
+returns-4 : tie.Need-returns-4
+returns-4 c =
+    let a = c .before .before .before .before .before .before .before .args in
+    let f = rowsAfter (a .chute) (now (a .plan)) in
+    c .malformed2 .ensures ∙ sym (ap f (c .before .before .place .given .1)) ∙ ap f (c .before .before .before .before .number-at .ensures) ∙ whole-after (a .chute) (now (a .plan)) (c .before .before .before .before .before .if1 .left)
+
+pub read-whole-spec : {M : Type 1} → statement M
+read-whole-spec =
+    tie.close
+    (tie.spec
+    returns
+    number-at-requires
+    enum-known-value
+    malformed-requires
+    returns-2
+    read-rows-requires
+    enum-known-place
+    malformed-requires-2
+    returns-3
+    returns-4)

@@ -1,0 +1,46 @@
+-- On a refused plan the answer is its number. Else the answer is set out by the cases of what the row reader finds.
+-- Anything but a row answers 10, and the place stays.
+use mathlib.Core.Path.{_≡_, refl, sym, ap, _∙_}
+use denote.Ref.{now}
+use Rattle.plan_walk.specs.Walk.{asked}
+use Rattle.plan_walk.proofs.Walking.{step-refused, step-from}
+use borrow.Author.Needs.{needs}
+use Rattle.plan_walk.proofs.step_at.Statement.{statement}
+use Rattle.plan_walk.proofs.step_at.Tie as tie
+
+stays-requires : tie.Need-stays-requires
+stays-requires c κs = search needs
+
+returns : tie.Need-returns
+returns c = let a = c .before .before .before .args in c .stays .ensures ∙ step-refused (now (a .plan)) (a .at) (a .refusal) (c .before .if1 .taken)
+
+row-at-requires : tie.Need-row-at-requires
+row-at-requires c κs = search needs
+
+enum-known-read : tie.Need-enum-known-read
+enum-known-read c = search needs
+
+enum-told : tie.Need-enum-told
+enum-told c = search needs
+
+stays-requires-2 : tie.Need-stays-requires-2
+stays-requires-2 c κs = search needs
+
+returns-2 : tie.Need-returns-2
+returns-2 c = let a = c .before .before .before .before .before .before .args in c .stays2 .ensures ∙ sym (ap (asked (a .at)) (c .before .enum-told .given .1)) ∙ step-from (now (a .plan)) (a .at) (a .refusal) _ (c .before .before .before .before .if1 .left) (c .before .before .before .row-at .ensures)
+
+returns-3 : tie.Need-returns-3
+returns-3 c = let a = c .before .before .before .before .before .before .args in sym (ap (asked (a .at)) (c .before .read .given .1)) ∙ step-from (now (a .plan)) (a .at) (a .refusal) _ (c .before .before .before .before .if1 .left) (c .before .before .before .row-at .ensures)
+
+pub step-at-spec : {M : Type 1} → statement M
+step-at-spec =
+    tie.close
+    (tie.spec
+    stays-requires
+    returns
+    row-at-requires
+    enum-known-read
+    enum-told
+    stays-requires-2
+    returns-2
+    returns-3)

@@ -1,0 +1,53 @@
+-- A plan written (document 01, 'The chute plan'): the number of rows, then each row's destination, each in the fewest groups. Rows that break the
+-- plan's rules or don't fill the lent buffer exactly are refused with 9, and nothing is written.
+use Prim.Native.Nat.{ℕ, zero, suc, _+_, _/_, _%_}
+use mathlib.Core.List.{List, [], _∷_, _++_}
+use mathlib.Core.Bool.{Bool, true, cond, _&&_}
+use lib.Dec.{ltb, leb, eqb}
+use lib.ListN.{length}
+use Rattle.plan_write.specs.declared.PlanLength.{PlanLength}
+
+-- the fewest groups of a number that takes at most `more` + 1
+unfoldable pub writtenGroups : ℕ → ℕ → List ℕ
+writtenGroups zero v = v ∷ []
+writtenGroups (suc more) v = cond (ltb v 128) (v ∷ []) ((128 + v % 128) ∷ writtenGroups more (v / 128))
+
+abbrev pub writtenNumber : ℕ → List ℕ
+writtenNumber v = writtenGroups 2 v
+
+unfoldable pub writtenRows : List ℕ → List ℕ
+writtenRows [] = []
+writtenRows (v ∷ l) = writtenNumber v ++ writtenRows l
+
+unfoldable pub writtenPlan : List ℕ → List ℕ
+writtenPlan l = writtenNumber (length l) ++ writtenRows l
+
+-- every destination fits three groups
+unfoldable pub rowsAllowed : List ℕ → Bool
+rowsAllowed [] = true
+rowsAllowed (v ∷ l) = leb v 2097151 && rowsAllowed l
+
+-- the plan's rules: at most 4,096 rows, each of which fits
+unfoldable pub allowed : List ℕ → Bool
+allowed l = leb (length l) 4096 && rowsAllowed l
+
+-- the length of a plan: 0 and the length, or 9 and 0
+abbrev pub lengthIs : ℕ → PlanLength
+lengthIs n = record { refusal = 0; length = n }
+
+abbrev pub noLength : PlanLength
+noLength = record { refusal = 9; length = 0 }
+
+unfoldable pub lengthOf : List ℕ → PlanLength
+lengthOf l = cond (allowed l) (lengthIs (length (writtenPlan l))) noLength
+
+-- rows keep the rules and fill n bytes exactly
+unfoldable pub fills : List ℕ → ℕ → Bool
+fills l n = allowed l && eqb (length (writtenPlan l)) n
+
+unfoldable pub writeRefusal : List ℕ → ℕ → ℕ
+writeRefusal l n = cond (fills l n) 0 9
+
+-- what the lent buffer holds afterwards: the plan, or what it held before
+unfoldable pub writtenOf : List ℕ → List ℕ → List ℕ
+writtenOf l out = cond (fills l (length out)) (writtenPlan l) out
