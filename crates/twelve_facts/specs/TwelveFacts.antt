@@ -1,0 +1,40 @@
+-- P1 to P12 of document 01, 'Both sides of the line', over the definitions that the contracts cite.
+use mathlib.Core.Path.{_≡_}
+use mathlib.Core.List.{[], _∷_}
+use Rattle.encode.specs.Encode.{leftEncode, rightEncode, encodeString, KMAC}
+use Rattle.encode.specs.Facts.{facts}
+use Rattle.plan.specs.Answers.{summaryOf, lookupOf, noDestination}
+use Rattle.plan.specs.Examples.{planAbove, plan-examples}
+
+pub record TwelveFacts : Type 0 where
+  pub p1 : leftEncode 0 ≡ 0x01 ∷ 0x00 ∷ []
+  pub p2 : rightEncode 0 ≡ 0x00 ∷ 0x01 ∷ []
+  pub p3 : leftEncode 255 ≡ 0x01 ∷ 0xff ∷ []
+  pub p4 : leftEncode 256 ≡ 0x02 ∷ 0x01 ∷ 0x00 ∷ []
+  pub p5 : rightEncode 256 ≡ 0x01 ∷ 0x00 ∷ 0x02 ∷ []
+  pub p6 : encodeString KMAC ≡ 0x01 ∷ 0x20 ∷ 0x4b ∷ 0x4d ∷ 0x41 ∷ 0x43 ∷ []
+  pub p7 : leftEncode 136 ≡ 0x01 ∷ 0x88 ∷ []
+  -- the plan 03 07 AC 02 00: chutes 2, 4 and 0
+  pub p8 : lookupOf planAbove 2 ≡ record { refusal = 0; destination = 300 }
+  pub p9 : lookupOf planAbove 4 ≡ noDestination 10
+  pub p10 : lookupOf planAbove 0 ≡ noDestination 10
+  -- a plan of no rows, and a number of four groups
+  pub p11 : summaryOf (0x00 ∷ []) ≡ record { refusal = 0; rows = 0 }
+  pub p12 : summaryOf (0x01 ∷ 0x80 ∷ 0x80 ∷ 0x80 ∷ 0x00 ∷ []) ≡ record { refusal = 9; rows = 0 }
+
+pub twelve-facts : TwelveFacts
+twelve-facts =
+    record {
+      p1 = facts .p1;
+      p2 = facts .p2;
+      p3 = facts .p3;
+      p4 = facts .p4;
+      p5 = facts .p5;
+      p6 = facts .p6;
+      p7 = facts .p7;
+      p8 = plan-examples .p8;
+      p9 = plan-examples .p9;
+      p10 = plan-examples .p10;
+      p11 = plan-examples .p11;
+      p12 = plan-examples .p12;
+    }
