@@ -1,7 +1,7 @@
 -- How one call on a session goes, for any session: it is refused and changes nothing, or it takes a piece, or it gives bytes.
 use mathlib.Core.Path.{_≡_, refl, ap, _∙_}
 use mathlib.Core.Bool.{Bool, true, false, cond}
-use mathlib.Core.List.{List}
+use mathlib.Core.List.{List, [], _∷_}
 use Prim.Native.Nat.{ℕ, suc, _+_, _%_, _≤_}
 use borrow.Author.Tests.{ltb-false}
 use lib.Dec.{ltb}
@@ -14,12 +14,19 @@ use Rattle.session.specs.declared.Session.{Session}
 use Rattle.session.specs.Session.{step, afterTaking, takingIn, source, afterGiving, giving, filled}
 use Rattle.session.specs.History.{SessionCall, takes, gives, called}
 
+-- the session after a piece, or after an ask, that was accepted
+abbrev pub tookTo : Session → ℕ → List ℕ → Session
+tookTo s p m = afterTaking s (length m) (absorbed (running (s .lanes) (p % 136)) m)
+
+abbrev pub gaveTo : Session → List ℕ → Session
+gaveTo s out = afterGiving s (length out) (after (length out) (source (s .phase) s))
+
 pub data Outcome (s : Session) : SessionCall → Type 0 where
   refused : {c : SessionCall} (k : ℕ) → called s c ≡ step (suc k) s → Outcome s c
   took : {m : List ℕ} (p : ℕ) → s .phase ≡ Taking p → s .taken + length m ≤ maxMessage
-      → called s (takes m) ≡ step 0 (afterTaking s (length m) (absorbed (running (s .lanes) (p % 136)) m)) → Outcome s (takes m)
+      → called s (takes m) ≡ step 0 (tookTo s p m) → Outcome s (takes m)
   gave : {out : List ℕ} → s .given + length out ≤ s .limit
-      → called s (gives out) ≡ step 0 (afterGiving s (length out) (after (length out) (source (s .phase) s)))
+      → called s (gives out) ≡ step 0 (gaveTo s out)
       → filled s out ≡ squeezed (length out) (source (s .phase) s) → Outcome s (gives out)
 
 take-outcome : (s : Session) (m : List ℕ) (p : ℕ) (b : Bool) → s .phase ≡ Taking p → ltb maxMessage (s .taken + length m) ≡ b → Outcome s (takes m)
@@ -40,3 +47,10 @@ give-outcome s out false e = gave {out = out} (ltb-false (s .limit) (s .given + 
 pub outcome : (s : Session) (c : SessionCall) → Outcome s c
 outcome s (takes m) = phase-outcome s m (s .phase) refl
 outcome s (gives out) = give-outcome s out (ltb (s .limit) (s .given + length out)) refl
+
+-- what holds of no calls, and of a call and those after it by how it goes, holds of any calls
+pub by-outcome : (P : List SessionCall → Session → Type 0) → ((s : Session) → P [] s)
+    → ((c : SessionCall) (cs : List SessionCall) (s : Session) → Outcome s c → ((t : Session) → P cs t) → P (c ∷ cs) s)
+    → (cs : List SessionCall) (s : Session) → P cs s
+by-outcome P none one [] s = none s
+by-outcome P none one (c ∷ cs) s = one c cs s (outcome s c) (by-outcome P none one cs)

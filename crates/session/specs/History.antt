@@ -34,6 +34,10 @@ abbrev pub accepted : ℕ → List ℕ → List ℕ
 accepted zero l = l
 accepted (suc k) l = []
 
+unfoldable pub sessionAfter : Session → List SessionCall → Session
+sessionAfter s [] = s
+sessionAfter s (c ∷ cs) = sessionAfter (called s c .session) cs
+
 unfoldable pub numbers : Session → List SessionCall → List ℕ
 numbers s [] = []
 numbers s (c ∷ cs) = called s c .number ∷ numbers (called s c .session) cs

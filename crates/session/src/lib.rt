@@ -5,7 +5,7 @@ ghost use Prim.Native.Nat.{_%_};
 ghost use lib.ListN.{length};
 ghost use Rattle.calls.specs.Start.{named, keyed};
 ghost use Rattle.sponge.specs.Running.{running, absorbed, finished};
-ghost use Rattle.session.specs.Session.{opened, begun, taking, inputEnd, source, giving, filled};
+ghost use Rattle.session.specs.Session.{step, opened, begun, taking, inputEnd, source, giving, filled};
 use sponge::absorb;
 use sponge::finish;
 use sponge::squeeze;
@@ -48,6 +48,12 @@ pub struct Step {
 struct Source {
     lanes: [u64; 25],
     position: usize,
+}
+
+fn refuse(number: u8, session: Session) -> Step
+    ensures { λ r. ⌜ r ≡ step number session ⌝ }
+{
+    Step { number, session }
 }
 
 // The session of a start. A refused start hands back a fresh session that is giving and has nothing to give.
@@ -104,23 +110,14 @@ pub fn take(s: Session, piece: &[u8]) -> Step
 {
     let phase = s.phase;
     let Phase::Taking(at) = phase else {
-        return Step {
-            number: 1,
-            session: s,
-        };
+        return refuse(1, s);
     };
     let taken = s.taken;
     if MAX_MESSAGE < taken {
-        return Step {
-            number: 5,
-            session: s,
-        };
+        return refuse(5, s);
     }
     if MAX_MESSAGE - taken < piece.len() {
-        return Step {
-            number: 5,
-            session: s,
-        };
+        return refuse(5, s);
     }
     let mut lanes = s.lanes;
     let position = absorb(&mut lanes, at, piece);
@@ -176,16 +173,10 @@ pub fn give(s: Session, out: &mut [u8]) -> Step
     let limit = s.limit;
     let n = out.len();
     if limit < given {
-        return Step {
-            number: 6,
-            session: s,
-        };
+        return refuse(6, s);
     }
     if limit - given < n {
-        return Step {
-            number: 6,
-            session: s,
-        };
+        return refuse(6, s);
     }
     let from = source_of(s);
     let mut lanes = from.lanes;

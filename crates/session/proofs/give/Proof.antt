@@ -13,16 +13,16 @@ use Rattle.session.proofs.give.Tie as tie
 returns : tie.Need-returns
 unfolding giving filled
 returns c =
-    let a = c .before .before .args in
+    let a = c .before .before .before .args in
     let h : a .s .limit < a .s .given + length (a .out .now) = omega arith in
-    (rw (lt-ltb _ _ h), rw (lt-ltb _ _ h))
+    (c .refuse .ensures ∙ rw (lt-ltb _ _ h), rw (lt-ltb _ _ h))
 
 returns-2 : tie.Need-returns-2
 unfolding giving filled
 returns-2 c =
-    let a = c .before .before .before .args in
+    let a = c .before .before .before .before .args in
     let h : a .s .limit < a .s .given + length (a .out .now) = omega arith in
-    (rw (lt-ltb _ _ h), rw (lt-ltb _ _ h))
+    (c .refuse2 .ensures ∙ rw (lt-ltb _ _ h), rw (lt-ltb _ _ h))
 
 returns-3 : tie.Need-returns-3
 unfolding giving filled
@@ -40,7 +40,9 @@ pub give-spec : {M : Type 1} → statement M
 give-spec =
     tie.close
     (tie.spec
+    (λ c κs. search needs)
     returns
+    (λ c κs. search needs)
     returns-2
     (λ c κs. search needs)
     (λ c κs. search needs)
