@@ -10,8 +10,8 @@ use lib.Seq.{take-at}
 use Rattle.encode.specs.Padding.{padded}
 use Rattle.calls.specs.Limits.{maxMessage, maxOutput}
 use Rattle.calls.specs.Start.{Start, named, keyed, startRefusal, startPrefix, startSuffix}
-use Rattle.calls.specs.Call.{cshake256, kmacxof256, refusal, Accepted, fed}
-use Rattle.calls.specs.Laws.Fed.{fed-parts, startPrefix-blocks}
+use Rattle.calls.specs.Call.{refusal, Accepted, fed, ending, extendable, extendableCall}
+use Rattle.calls.specs.Laws.Fed.{extendable-parts, startPrefix-blocks}
 use Rattle.sponge.specs.Sponge.{sponge}
 use Rattle.sponge.specs.Running.{Running, running, fresh, absorbed, finished, squeezed, after}
 use Rattle.sponge.proofs.Absorbing.{absorbed-append, squeezed-add, length-squeezed}
@@ -22,7 +22,7 @@ use Rattle.session.specs.declared.Session.{Session}
 use Rattle.session.specs.declared.Step.{Step}
 use Rattle.session.specs.Session.{step, initial, opened, isKeyed, begun, inputEnd}
 use Rattle.session.specs.History.{SessionCall, sessionAfter, pieces, output}
-use Rattle.session.specs.Joined.{oneShot, JoinedBytes}
+use Rattle.session.specs.Joined.{JoinedBytes}
 use Rattle.session.proofs.EmptyPiece.{Regular, stays-regular, empty-piece}
 use Rattle.session.proofs.Totals.{takes-few, gives-few}
 use Rattle.session.proofs.Given.{sourceAfter, gives-joined}
@@ -37,15 +37,15 @@ initial-regular s p e = let i : 0 ≡ p = cc in (omega arith, omega arith)
 
 -- ---- the one-shot call
 
-oneShot-accepted : (s : Start) (X : List ℕ) (n : ℕ) → startRefusal s ≡ 0 → length X ≤ maxMessage → n ≤ maxOutput → Accepted (oneShot s X n)
+call-accepted : (s : Start) (X : List ℕ) (n : ℕ) → startRefusal s ≡ 0 → length X ≤ maxMessage → n ≤ maxOutput → Accepted (extendableCall s X n)
 unfolding refusal
-oneShot-accepted (named N S) X n h x y = rw (h, le-ltb maxMessage (length X) x, le-ltb maxOutput n y)
-oneShot-accepted (keyed K S) X n h x y = rw (h, le-ltb maxMessage (length X) x, le-ltb maxOutput n y)
+call-accepted (named N S) X n h x y = rw (h, le-ltb maxMessage (length X) x, le-ltb maxOutput n y)
+call-accepted (keyed K S) X n h x y = rw (h, le-ltb maxMessage (length X) x, le-ltb maxOutput n y)
 
-oneShot-fed : (s : Start) (X : List ℕ) (n : ℕ) → fed (oneShot s X n) ≡ padded (startSuffix s) (startPrefix s ++ (X ++ inputEnd (isKeyed s)))
+inputEnd-ending : (s : Start) → inputEnd (isKeyed s) ≡ ending (extendable s) 0
 unfolding inputEnd
-oneShot-fed (named N S) X n = fed-parts (cshake256 X n N S) ∙ simp append-assoc
-oneShot-fed (keyed K S) X n = fed-parts (kmacxof256 K X n S) ∙ simp append-assoc
+inputEnd-ending (named N S) = refl
+inputEnd-ending (keyed K S) = refl
 
 -- the prefix is whole blocks
 prefix-absorbed : (s : Start) → running (absorbed fresh (startPrefix s) .lanes) 0 ≡ absorbed fresh (startPrefix s)
@@ -56,16 +56,18 @@ prefix-absorbed s =
     ap (running (u .lanes)) (sym position)
 
 -- once the session has taken X, it gives the one-shot answer
-oneShot-given : (s : Start) (X : List ℕ) (n : ℕ)
-    → squeezed n (sourceAfter (Taking 0) (initial (accepted s) (isKeyed s)) X) ≡ sponge (fed (oneShot s X n)) n
+call-given : (s : Start) (X : List ℕ) (n : ℕ)
+    → squeezed n (sourceAfter (Taking 0) (initial (accepted s) (isKeyed s)) X) ≡ sponge (fed (extendableCall s X n)) n
 unfolding sourceAfter
-oneShot-given s X n =
+call-given s X n =
     let l : List ℕ = X ++ inputEnd (isKeyed s) in
     let input : absorbed (running (absorbed fresh (startPrefix s) .lanes) 0) l ≡ absorbed fresh (startPrefix s ++ l)
     = ap (λ (u : Running). absorbed u l) (prefix-absorbed s) ∙ sym (absorbed-append fresh (startPrefix s) l) in
+    let fed-input : padded (startSuffix s) (startPrefix s ++ l) ≡ fed (extendableCall s X n)
+    = rw inputEnd-ending (sym (rw append-assoc at (extendable-parts s X n))) in
     ap (λ (u : Running). squeezed n (finished (startSuffix s) u)) input
     ∙ squeezed-whole (startSuffix s) (startPrefix s ++ l) n
-    ∙ ap (λ (m : List ℕ). sponge m n) (sym (oneShot-fed s X n))
+    ∙ ap (λ (m : List ℕ). sponge m n) fed-input
 
 squeezed-first : (n d : ℕ) (u : Running) → n ≤ d → take n (squeezed d u) ≡ squeezed n u
 squeezed-first n d u h =
@@ -85,6 +87,6 @@ joined-bytes s h cs =
       started = rw e;
       numbered = rw e (numbers-table cs (b .lanes) (Taking 0) 0 0 (b .suffix) (b .keyed));
       emptyPiece = rw e (empty-piece (sessionAfter b cs) (stays-regular cs b (initial-regular s)));
-      acceptable = rw e (oneShot-accepted s X n h (omega (arith, takes-few cs b (omega arith))) (omega (arith, gives-few cs b (omega arith))));
-      joined = λ d f. rw e (gives-joined cs b ∙ sym (squeezed-first n d (sourceAfter (Taking 0) b X) (rw e at f)) ∙ ap (take n) (oneShot-given s X d));
+      acceptable = rw e (call-accepted s X n h (omega (arith, takes-few cs b (omega arith))) (omega (arith, gives-few cs b (omega arith))));
+      joined = λ d f. rw e (gives-joined cs b ∙ sym (squeezed-first n d (sourceAfter (Taking 0) b X) (rw e at f)) ∙ ap (take n) (call-given s X d));
     }

@@ -6,17 +6,14 @@ ghost use lib.ListN.{length};
 ghost use Rattle.calls.specs.Start.{named, keyed};
 ghost use Rattle.sponge.specs.Running.{running, absorbed, finished};
 ghost use Rattle.session.specs.Session.{step, opened, begun, taking, inputEnd, source, giving, filled};
+use calls::MAX_MESSAGE;
+use calls::MAX_OUTPUT;
 use sponge::absorb;
 use sponge::finish;
 use sponge::squeeze;
 use start::Started;
 use start::start_keyed;
 use start::start_named;
-
-// The most message bytes that a session takes, and output bytes that it gives, in all.
-const MAX_MESSAGE: usize = 16_777_216;
-
-const MAX_OUTPUT: usize = 16_777_216;
 
 // Taking the message, or giving output, with the position of the next byte in the block.
 pub enum Phase {
