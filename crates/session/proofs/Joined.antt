@@ -1,7 +1,7 @@
 -- The joined-bytes rule: the one sponge that an accepted start's session gives from (`Given.gives-joined`) is that of the one-shot call.
 use mathlib.Core.Path.{_≡_, refl, sym, ap, _∙_}
 use mathlib.Core.List.{List, _++_, append-assoc}
-use Prim.Native.Nat.{ℕ, _-_, _%_, _≤_}
+use Prim.Native.Nat.{ℕ, _-_, _≤_}
 use native.Mathlib.Nat.{zero-add}
 use native.Mathlib.Omega.{arith}
 use borrow.Author.Tests.{le-ltb}
@@ -19,7 +19,6 @@ use Rattle.sponge.proofs.Whole.{absorbed-position, squeezed-whole}
 use Rattle.start.specs.Started.{accepted, started}
 use Rattle.session.specs.declared.Phase.the-variants.{Taking}
 use Rattle.session.specs.declared.Session.{Session}
-use Rattle.session.specs.declared.Step.{Step}
 use Rattle.session.specs.Session.{step, initial, opened, isKeyed, begun, inputEnd}
 use Rattle.session.specs.History.{SessionCall, sessionAfter, pieces, output}
 use Rattle.session.specs.Joined.{JoinedBytes}

@@ -10,7 +10,6 @@ use Rattle.sponge.specs.Running.{Running, running, absorbed, after}
 use Rattle.session.specs.declared.Phase.{Phase}
 use Rattle.session.specs.declared.Phase.the-variants.{Taking, Giving}
 use Rattle.session.specs.declared.Session.{Session}
-use Rattle.session.specs.declared.Step.{Step}
 use Rattle.session.specs.Session.{step, takingIn, source, giving}
 use Rattle.session.specs.History.{SessionCall, takes, gives, called, numbers, tableNumbers}
 

@@ -1,6 +1,6 @@
 -- How one call on a session goes, for any session: it is refused and changes nothing, or it takes a piece, or it gives bytes.
-use mathlib.Core.Path.{_≡_, refl, ap, _∙_}
-use mathlib.Core.Bool.{Bool, true, false, cond}
+use mathlib.Core.Path.{_≡_, refl}
+use mathlib.Core.Bool.{Bool, true, false}
 use mathlib.Core.List.{List, [], _∷_}
 use Prim.Native.Nat.{ℕ, suc, _+_, _%_, _≤_}
 use borrow.Author.Tests.{ltb-false}

@@ -1,5 +1,5 @@
 -- Calls in a row on one session, accepted and refused: their numbers, the accepted pieces, joined, and the bytes given, joined.
-use mathlib.Core.Bool.{Bool, true, false, cond}
+use mathlib.Core.Bool.{Bool, true, cond}
 use mathlib.Core.List.{List, [], _∷_, _++_}
 use Prim.Native.Nat.{ℕ, zero, suc, _+_}
 use lib.Dec.{ltb}

@@ -23,15 +23,19 @@ pub fn report(label: &[u8], s: Session) {
     text(b"\ncut in two: ");
     number(cut_in_two(s, &message, &answer));
     text(b" alike\npieces and portions:");
+    by_sizes(s, &message, &answer);
+    text(b"\n");
+}
+
+fn by_sizes(s: Session, message: &[u8], answer: &[u8]) {
     let sizes = SIZES;
     for i in 0usize..13 {
         text(b" ");
         number(sizes[i]);
-        if !alike(s, &message, sizes[i], &answer) {
+        if !alike(s, message, sizes[i], answer) {
             text(b" differs");
         }
     }
-    text(b"\n");
 }
 
 fn fill(message: &mut [u8]) {
@@ -42,17 +46,16 @@ fn fill(message: &mut [u8]) {
     }
 }
 
-// In how many places the message can be cut in two with the same answer.
+// How many cuts in two, from the empty first piece on, give the same answer.
 fn cut_in_two(s: Session, message: &[u8], answer: &[u8]) -> usize {
-    let mut count = 0;
     let mut cut = 0;
     while cut <= message.len() {
-        if cut_at(s, message, cut, answer) {
-            count += 1;
+        if !cut_at(s, message, cut, answer) {
+            return cut;
         }
         cut += 1;
     }
-    count
+    cut
 }
 
 fn cut_at(s: Session, message: &[u8], cut: usize, answer: &[u8]) -> bool

@@ -12,7 +12,10 @@ pub fn report() {
     text(b"16777216 bytes taken: ");
     message(take_all(start_cshake256(b"", b"").session, &part));
     text(b"16777216 bytes given: ");
-    output(give_all(start_cshake256(b"", b"").session, &mut part), &part[65504..]);
+    output(
+        give_all(start_cshake256(b"", b"").session, &mut part),
+        &part[65504..],
+    );
 }
 
 fn take_all(s: Session, part: &[u8]) -> Session {

@@ -11,17 +11,30 @@ use session::take;
 
 pub fn report() {
     let long = [0u8; 4097];
+    let other = [0u8; 4097];
     text(b"refused starts\n");
     unstarted(b"key 4097", start_kmacxof256(&long, b""));
-    unstarted(b"key and customisation 4097", start_kmacxof256(&long, &long));
+    unstarted(
+        b"key and customisation 4097",
+        start_kmacxof256(&long, &other),
+    );
     unstarted(b"keyed customisation 4097", start_kmacxof256(b"", &long));
     unstarted(b"name 4097", start_cshake256(&long, b""));
     unstarted(b"customisation 4097", start_cshake256(b"", &long));
-    unstarted(b"name KMAC, customisation 4097", start_cshake256(b"KMAC", &long));
+    unstarted(
+        b"name KMAC, customisation 4097",
+        start_cshake256(b"KMAC", &long),
+    );
     unstarted(b"name KMAC", start_cshake256(b"KMAC", b""));
     text(b"accepted starts\n");
-    started(b"name and customisation 4096", start_cshake256(&long[..4096], &long[..4096]));
-    started(b"key and customisation 4096", start_kmacxof256(&long[..4096], &long[..4096]));
+    started(
+        b"name and customisation 4096",
+        start_cshake256(&long[..4096], &other[..4096]),
+    );
+    started(
+        b"key and customisation 4096",
+        start_kmacxof256(&long[..4096], &other[..4096]),
+    );
     started(b"name kmac", start_cshake256(b"kmac", b""));
     started(b"name KMAC and a blank", start_cshake256(b"KMAC ", b""));
     text(b"turned by an ask for no bytes\n");
@@ -39,7 +52,14 @@ fn unstarted(label: &[u8], start: Step) {
     let again = take(ask.session, b"");
     let byte = give(again.session, &mut out);
     text(label);
-    numbers(start.number, empty.number, piece.number, ask.number, again.number, byte.number);
+    numbers(
+        start.number,
+        empty.number,
+        piece.number,
+        ask.number,
+        again.number,
+        byte.number,
+    );
     text(b" ");
     hex(&out);
     text(b"\n");
@@ -83,7 +103,14 @@ fn turned(label: &[u8], s: Session) {
     let late = take(begin.session, b"d");
     let end = give(late.session, &mut rest);
     text(label);
-    numbers(three.number, ask.number, empty.number, more.number, begin.number, late.number);
+    numbers(
+        three.number,
+        ask.number,
+        empty.number,
+        more.number,
+        begin.number,
+        late.number,
+    );
     answer(end.number);
     text(b" ");
     hex(&first);

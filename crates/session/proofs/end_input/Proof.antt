@@ -1,5 +1,5 @@
 -- The two bytes are right_encode(0), and the position after them is below 136; a session that is not keyed ends where it stands.
-use mathlib.Core.Path.{_≡_, ap, _∙_, sym}
+use mathlib.Core.Path.{_≡_, ap, _∙_}
 use Prim.Native.Nat.{_%_}
 use native.Mathlib.Nat.{mod-eq-of-lt}
 use borrow.Author.Needs.{needs}

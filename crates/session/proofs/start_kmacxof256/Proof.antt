@@ -1,6 +1,6 @@
 -- The start's answer is the one that `begun` opens.
 use mathlib.Core.Path.{ap, _∙_}
-use mathlib.Core.Bool.{true, false}
+use mathlib.Core.Bool.{true}
 use borrow.Author.Needs.{needs}
 use Rattle.start.specs.declared.Started.{Started}
 use Rattle.session.specs.Session.{opened, begun}
