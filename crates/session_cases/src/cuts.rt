@@ -19,12 +19,16 @@ pub fn report(label: &[u8], s: Session) {
     give(take(s, &message).session, &mut answer);
     text(label);
     text(b"\n");
-    hex(&answer);
-    text(b"\ncut in two: ");
-    number(cut_in_two(s, &message, &answer));
-    text(b" alike\npieces and portions:");
+    cuts(s, &message, &answer);
     by_sizes(s, &message, &answer);
     text(b"\n");
+}
+
+fn cuts(s: Session, message: &[u8], answer: &[u8]) {
+    hex(answer);
+    text(b"\ncut in two: ");
+    number(cut_in_two(s, message, answer));
+    text(b" alike\npieces and portions:");
 }
 
 fn by_sizes(s: Session, message: &[u8], answer: &[u8]) {

@@ -4,6 +4,7 @@ mod cuts;
 mod limits;
 mod print;
 mod refusals;
+mod steps;
 
 fn main() {
     cuts::report(b"SHAKE256", session::start_cshake256(b"", b"").session);
