@@ -11,16 +11,22 @@ use Rattle.sponge.specs.Sponge.{sponge}
 use Rattle.session.specs.Session.{begun, taking}
 use Rattle.session.specs.History.{SessionCall, sessionAfter, numbers, pieces, output, tableNumbers}
 
--- for the calls cs from the start s
+-- for the calls cs from the start s: the accepted pieces, joined, and the bytes given, joined
+abbrev pub joinedPieces : Start → List SessionCall → List ℕ
+joinedPieces s cs = pieces (begun s .session) cs
+
+abbrev pub joinedOutput : Start → List SessionCall → List ℕ
+joinedOutput s cs = output (begun s .session) cs
+
 pub record JoinedBytes (s : Start) (cs : List SessionCall) : Type 0 where
   -- the start is answered with 0
   pub started : begun s .number ≡ 0
-  -- each call's number is the table's
+  -- and each call with the table's number
   pub numbered : numbers (begun s .session) cs ≡ tableNumbers false 0 0 cs
   -- an empty piece after them changes nothing
   pub emptyPiece : taking (sessionAfter (begun s .session) cs) [] .session ≡ sessionAfter (begun s .session) cs
   -- the one-shot call over the accepted pieces, for as many bytes as were given, is accepted
-  pub acceptable : Accepted (extendableCall s (pieces (begun s .session) cs) (length (output (begun s .session) cs)))
-  -- and the bytes given are the first bytes of its answer, for any longer output too
-  pub joined : (d : ℕ) → length (output (begun s .session) cs) ≤ d
-      → output (begun s .session) cs ≡ take (length (output (begun s .session) cs)) (sponge (fed (extendableCall s (pieces (begun s .session) cs) d)) d)
+  pub acceptable : Accepted (extendableCall s (joinedPieces s cs) (length (joinedOutput s cs)))
+  -- and the bytes given are the first bytes of its answer, which a longer output begins with too
+  pub joined : (d : ℕ) → length (joinedOutput s cs) ≤ d
+      → joinedOutput s cs ≡ take (length (joinedOutput s cs)) (sponge (fed (extendableCall s (joinedPieces s cs) d)) d)
