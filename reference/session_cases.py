@@ -9,7 +9,7 @@ import hashlib
 from refusals import MESSAGE_LIMIT, OUTPUT_LIMIT
 from sessions import give, start_cshake256, start_kmacxof256, take
 
-MESSAGE = bytes(i % 251 for i in range(409))
+MESSAGE = bytes((3 + 7 * i) % 256 for i in range(409))
 OUTPUT = 300
 SIZES = (1, 2, 3, 7, 67, 135, 136, 137, 271, 272, 273, 408, 409)
 LONG = bytes(4097)
@@ -77,7 +77,8 @@ def print_started(label, start):
 def print_turned(label, session):
     """An ask for no bytes turns the session; refused pieces count for nothing."""
     numbers, output = calls(session, b"abc", 0, b"", b"d", 5, b"d", 200)
-    print(label, numbers, output.hex())
+    print(label, numbers, output[:5].hex())
+    print(output[5:].hex())
 
 
 def print_limits():
@@ -91,8 +92,8 @@ def print_limits():
     print("16777216 bytes taken:", numbers, output)
     _, session = start_cshake256(b"", b"")
     numbers, _ = calls(session._replace(giving=True, given=OUTPUT_LIMIT), 1, 0, b"")
-    output = hashlib.shake_256(b"").digest(OUTPUT_LIMIT)[-32:]
-    print("16777216 bytes given:", numbers, "aa", output.hex())
+    print("16777216 bytes given:", numbers, "aa")
+    print(hashlib.shake_256(b"").digest(OUTPUT_LIMIT)[-32:].hex())
 
 
 def main():

@@ -1,21 +1,20 @@
 -- The joined-bytes rule: the one sponge that an accepted start's session gives from (`Given.gives-joined`) is that of the one-shot call.
 use mathlib.Core.Path.{_≡_, refl, sym, ap, _∙_}
 use mathlib.Core.List.{List, _++_, append-assoc}
-use Prim.Native.Nat.{ℕ, _-_, _≤_}
+use Prim.Native.Nat.{ℕ, _≤_}
 use native.Mathlib.Nat.{zero-add}
 use native.Mathlib.Omega.{arith}
 use borrow.Author.Tests.{le-ltb}
-use lib.ListN.{length, take, replicate}
-use lib.Seq.{take-at}
+use lib.ListN.{length, replicate}
 use Rattle.encode.specs.Padding.{padded}
 use Rattle.calls.specs.Limits.{maxMessage, maxOutput}
 use Rattle.calls.specs.Start.{Start, named, keyed, startRefusal, startPrefix, startSuffix}
 use Rattle.calls.specs.Call.{refusal, Accepted, fed, ending, extendable, extendableCall}
 use Rattle.calls.specs.Laws.Fed.{extendable-parts, startPrefix-blocks}
 use Rattle.sponge.specs.Sponge.{sponge}
-use Rattle.sponge.specs.Running.{Running, running, fresh, absorbed, finished, squeezed, after}
-use Rattle.sponge.proofs.Absorbing.{absorbed-append, squeezed-add, length-squeezed}
-use Rattle.sponge.proofs.Whole.{absorbed-position, squeezed-whole}
+use Rattle.sponge.specs.Running.{Running, running, fresh, absorbed, finished, squeezed}
+use Rattle.sponge.proofs.Absorbing.{absorbed-append}
+use Rattle.sponge.proofs.Whole.{absorbed-position, squeezed-whole, sponge-prefix}
 use Rattle.start.specs.Started.{accepted, started}
 use Rattle.session.specs.declared.Phase.the-variants.{Taking}
 use Rattle.session.specs.declared.Session.{Session}
@@ -55,24 +54,18 @@ prefix-absorbed s =
     ap (running (u .lanes)) (sym position)
 
 -- once the session has taken X, it gives the one-shot answer
-call-given : (s : Start) (X : List ℕ) (n : ℕ)
-    → squeezed n (sourceAfter (Taking 0) (initial (accepted s) (isKeyed s)) X) ≡ sponge (fed (extendableCall s X n)) n
+call-given : (s : Start) (X : List ℕ) (n d : ℕ)
+    → squeezed n (sourceAfter (Taking 0) (initial (accepted s) (isKeyed s)) X) ≡ sponge (fed (extendableCall s X d)) n
 unfolding sourceAfter
-call-given s X n =
+call-given s X n d =
     let l : List ℕ = X ++ inputEnd (isKeyed s) in
     let input : absorbed (running (absorbed fresh (startPrefix s) .lanes) 0) l ≡ absorbed fresh (startPrefix s ++ l)
     = ap (λ (u : Running). absorbed u l) (prefix-absorbed s) ∙ sym (absorbed-append fresh (startPrefix s) l) in
-    let fed-input : padded (startSuffix s) (startPrefix s ++ l) ≡ fed (extendableCall s X n)
-    = rw inputEnd-ending (sym (rw append-assoc at (extendable-parts s X n))) in
+    let fed-input : padded (startSuffix s) (startPrefix s ++ l) ≡ fed (extendableCall s X d)
+    = rw inputEnd-ending (sym (rw append-assoc at (extendable-parts s X d))) in
     ap (λ (u : Running). squeezed n (finished (startSuffix s) u)) input
     ∙ squeezed-whole (startSuffix s) (startPrefix s ++ l) n
     ∙ ap (λ (m : List ℕ). sponge m n) fed-input
-
-squeezed-first : (n d : ℕ) (u : Running) → n ≤ d → take n (squeezed d u) ≡ squeezed n u
-squeezed-first n d u h =
-    ap (λ (k : ℕ). take n (squeezed k u)) (omega arith)
-    ∙ ap (take n) (squeezed-add n (d - n) u)
-    ∙ take-at (squeezed n u) (squeezed (d - n) (after n u)) n (length-squeezed n u)
 
 -- ---- the rule
 
@@ -87,5 +80,5 @@ joined-bytes s h cs =
       numbered = rw e (numbers-table cs (b .lanes) (Taking 0) 0 0 (b .suffix) (b .keyed));
       emptyPiece = rw e (empty-piece (sessionAfter b cs) (stays-regular cs b (initial-regular s)));
       acceptable = rw e (call-accepted s X n h (omega (arith, takes-few cs b (omega arith))) (omega (arith, gives-few cs b (omega arith))));
-      joined = λ d f. rw e (gives-joined cs b ∙ sym (squeezed-first n d (sourceAfter (Taking 0) b X) (rw e at f)) ∙ ap (take n) (call-given s X d));
+      joined = λ d f. rw e (gives-joined cs b ∙ call-given s X n d ∙ sym (sponge-prefix (fed (extendableCall s X d)) n d (rw e at f)));
     }

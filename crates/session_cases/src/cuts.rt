@@ -1,12 +1,13 @@
 // One message of three blocks and a byte, taken in pieces, and an output of two blocks and 28 bytes, given in portions.
 ghost use Prim.Native.Nat.{_≤_, _<_};
 ghost use lib.ListN.{length};
-use crate::print::hex;
-use crate::print::number;
-use crate::print::text;
 use session::Session;
 use session::give;
 use session::take;
+use testing::fill;
+use testing::print;
+use testing::print_bytes;
+use testing::print_number;
 
 // Sizes of pieces and portions: small ones, and around a block, two blocks and the whole message.
 const SIZES: [usize; 13] = [1, 2, 3, 7, 67, 135, 136, 137, 271, 272, 273, 408, 409];
@@ -14,39 +15,31 @@ const SIZES: [usize; 13] = [1, 2, 3, 7, 67, 135, 136, 137, 271, 272, 273, 408, 4
 // The answer in one piece and one portion, then how many ways to cut gave the same.
 pub fn report(label: &[u8], s: Session) {
     let mut message = [0u8; 409];
-    fill(&mut message);
+    fill(&mut message, 3, 7);
     let mut answer = [0u8; 300];
     give(take(s, &message).session, &mut answer);
-    text(label);
-    text(b"\n");
+    print(label);
+    print(b"\n");
     cuts(s, &message, &answer);
     by_sizes(s, &message, &answer);
-    text(b"\n");
+    print(b"\n");
 }
 
 fn cuts(s: Session, message: &[u8], answer: &[u8]) {
-    hex(answer);
-    text(b"\ncut in two: ");
-    number(cut_in_two(s, message, answer));
-    text(b" alike\npieces and portions:");
+    print_bytes(answer);
+    print(b"cut in two: ");
+    print_number(cut_in_two(s, message, answer) as u64);
+    print(b" alike\npieces and portions:");
 }
 
 fn by_sizes(s: Session, message: &[u8], answer: &[u8]) {
     let sizes = SIZES;
     for i in 0usize..13 {
-        text(b" ");
-        number(sizes[i]);
+        print(b" ");
+        print_number(sizes[i] as u64);
         if !alike(s, message, sizes[i], answer) {
-            text(b" differs");
+            print(b" differs");
         }
-    }
-}
-
-fn fill(message: &mut [u8]) {
-    let mut i = 0;
-    while i < message.len() {
-        message[i] = (i % 251) as u8;
-        i += 1;
     }
 }
 

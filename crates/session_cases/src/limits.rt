@@ -1,6 +1,4 @@
 // The totals of 16,777,216 bytes in and out, as 256 times 65,536 bytes of SHAKE256.
-use crate::print::hex;
-use crate::print::text;
 use crate::steps::ask;
 use crate::steps::ask_none;
 use crate::steps::piece;
@@ -8,11 +6,13 @@ use session::Session;
 use session::give;
 use session::start_cshake256;
 use session::take;
+use testing::print;
+use testing::print_bytes;
 
 pub fn report() {
-    text(b"16777216 bytes taken:");
+    print(b"16777216 bytes taken:");
     taken(start_cshake256(b"", b"").session);
-    text(b"16777216 bytes given:");
+    print(b"16777216 bytes given:");
     given(start_cshake256(b"", b"").session);
 }
 
@@ -22,7 +22,8 @@ fn taken(s: Session) {
     let mut out = [0u8; 32];
     let t = piece(piece(take_all(s, &part), b"x"), b"");
     give(t, &mut out);
-    line(&out);
+    print(b" ");
+    print_bytes(&out);
 }
 
 // After them one byte more is refused and not written, no byte is not, and a piece is refused; then the last 32 bytes of output.
@@ -31,15 +32,9 @@ fn given(s: Session) {
     let mut byte = [0xaau8];
     let t = ask(give_all(s, &mut part), &mut byte);
     piece(ask_none(t), b"");
-    text(b" ");
-    hex(&byte);
-    line(&part[65504..]);
-}
-
-fn line(bytes: &[u8]) {
-    text(b" ");
-    hex(bytes);
-    text(b"\n");
+    print(b" ");
+    print_bytes(&byte);
+    print_bytes(&part[65504..]);
 }
 
 fn take_all(s: Session, part: &[u8]) -> Session {

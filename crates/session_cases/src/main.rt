@@ -2,7 +2,6 @@
 // reference/session_cases.py.
 mod cuts;
 mod limits;
-mod print;
 mod refusals;
 mod steps;
 

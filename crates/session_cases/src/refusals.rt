@@ -1,6 +1,4 @@
 // Refusals in every phase: starts that are refused and what their sessions answer, and sessions that an ask for no bytes has turned.
-use crate::print::hex;
-use crate::print::text;
 use crate::steps::answer;
 use crate::steps::ask;
 use crate::steps::ask_none;
@@ -9,17 +7,19 @@ use session::Session;
 use session::Step;
 use session::start_cshake256;
 use session::start_kmacxof256;
+use testing::print;
+use testing::print_bytes;
 
 pub fn report() {
-    text(b"refused starts\n");
+    print(b"refused starts\n");
     long_keys();
     long_names();
     unstarted(b"name KMAC", start_cshake256(b"KMAC", b""));
-    text(b"accepted starts\n");
+    print(b"accepted starts\n");
     longest();
     started(b"name kmac", start_cshake256(b"kmac", b""));
     started(b"name KMAC and a blank", start_cshake256(b"KMAC ", b""));
-    text(b"turned by an ask for no bytes\n");
+    print(b"turned by an ask for no bytes\n");
     turned(b"cSHAKE256", start_cshake256(b"sorter", b"").session);
     turned(b"KMACXOF256", start_kmacxof256(b"key", b"").session);
 }
@@ -61,38 +61,35 @@ fn longest() {
 // The number, then those for an empty piece, a byte taken, no byte asked for, an empty piece again and a byte asked for; the lent byte after it.
 fn unstarted(label: &[u8], start: Step) {
     let mut out = [0xaau8];
-    text(label);
+    print(label);
     answer(start.number);
     let s = piece(piece(start.session, b""), b"x");
     let t = piece(ask_none(s), b"");
     ask(t, &mut out);
-    text(b" ");
-    hex(&out);
-    text(b"\n");
+    print(b" ");
+    print_bytes(&out);
 }
 
 // The number, and 32 bytes given before any piece.
 fn started(label: &[u8], start: Step) {
     let mut out = [0u8; 32];
-    text(label);
+    print(label);
     answer(start.number);
     session::give(start.session, &mut out);
-    text(b" ");
-    hex(&out);
-    text(b"\n");
+    print(b" ");
+    print_bytes(&out);
 }
 
 // Three bytes, an ask for none, an empty piece and a byte that are refused, and then the output of the three bytes, with a refused piece between.
 fn turned(label: &[u8], s: Session) {
     let mut first = [0u8; 5];
     let mut rest = [0u8; 200];
-    text(label);
+    print(label);
     let t = ask(refused_pieces(s), &mut first);
     ask(piece(t, b"d"), &mut rest);
-    text(b" ");
-    hex(&first);
-    hex(&rest);
-    text(b"\n");
+    print(b" ");
+    print_bytes(&first);
+    print_bytes(&rest);
 }
 
 fn refused_pieces(s: Session) -> Session {

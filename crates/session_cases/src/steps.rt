@@ -1,11 +1,11 @@
 // Calls of a session, each with a blank and its number written.
-use crate::print::number;
-use crate::print::text;
 use session::Session;
+use testing::print;
+use testing::print_number;
 
 pub fn answer(k: u8) {
-    text(b" ");
-    number(k as usize);
+    print(b" ");
+    print_number(k as u64);
 }
 
 pub fn piece(s: Session, bytes: &[u8]) -> Session {
