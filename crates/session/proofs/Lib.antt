@@ -1,0 +1,7 @@
+pub mod Outcome
+pub mod Totals
+pub mod EmptyPiece
+pub mod Given
+pub mod Numbers
+pub mod Joined
+pub mod Unstarted
