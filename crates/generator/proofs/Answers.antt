@@ -1,6 +1,6 @@
 -- From the tests on the way and the bytes at the end to what a seeding and a draw answer.
 use mathlib.Core.Path.{_≡_, refl, sym, ap, _∙_}
-use mathlib.Core.Bool.{Bool, true, false, cond}
+use mathlib.Core.Bool.{Bool, true, false}
 use mathlib.Core.List.{List}
 use Prim.Native.Nat.{ℕ, zero, suc, _*_, _≤_}
 use native.Mathlib.Omega.{arith}
@@ -16,14 +16,13 @@ use Rattle.sponge.specs.Sponge.{sponge}
 use Rattle.hash.specs.Outcome.{writtenWith}
 use Rattle.pieces.specs.Pieces.{Generated, pieces, drawn}
 use Rattle.generator.specs.declared.Generator.{Generator}
-use Rattle.generator.specs.declared.Answer.{Answer}
-use Rattle.generator.specs.Seed.{holding, answerWith, seeding, seedAnswer}
+use Rattle.generator.specs.Seed.{holding, refused, answerWith, seeding, seedAnswer}
 use Rattle.generator.specs.Draw.{generate, drawRefusal, drawRuns, drawAnswer, drawOutput}
 
 -- a number other than 0: no runs, and the state as it was
-refused : (k n : ℕ) (after before : Generator) → (k ≡ 0 → ⊥) → record { number = k; runs = 0; generator = before } ≡ answerWith k n after before
-refused zero n after before some = absurd (some refl)
-refused (suc k) n after before some = refl
+refused-with : (k n : ℕ) (after before : Generator) → (k ≡ 0 → ⊥) → refused k before ≡ answerWith k n after before
+refused-with zero n after before some = absurd (some refl)
+refused-with (suc k) n after before some = refl
 
 unwritten : (k : ℕ) (answer before : List ℕ) → (k ≡ 0 → ⊥) → before ≡ writtenWith k answer before
 unwritten zero answer before some = absurd (some refl)
@@ -38,10 +37,10 @@ module _ (g : Generator) (x p : List ℕ) where
   abbrev newKey : List ℕ
   newKey = sponge (fed (seedCall s)) 64
 
-  pub seed-refused : (k : ℕ) → k ≡ seedRefusal s → (k ≡ 0 → ⊥) → record { number = k; runs = 0; generator = g } ≡ seedAnswer g x p
+  pub seed-refused : (k : ℕ) → k ≡ seedRefusal s → (k ≡ 0 → ⊥) → refused k g ≡ seedAnswer g x p
   unfolding seedAnswer seedCount
   seed-refused k e some =
-      refused k (runs (seedCall s)) (holding newKey) g some ∙ ap (λ (j : ℕ). answerWith j (runs (seedCall s)) (holding newKey) g) e
+      refused-with k (runs (seedCall s)) (holding newKey) g some ∙ ap (λ (j : ℕ). answerWith j (runs (seedCall s)) (holding newKey) g) e
 
   pub seed-accepted : (r : ℕ) (key : List ℕ) → seedRefusal s ≡ 0 → r ≡ runs (seedCall s) → key ≡ newKey
       → record { number = 0; runs = r; generator = record { key = key; seeded = true } } ≡ seedAnswer g x p
@@ -68,10 +67,10 @@ module _ (g : Generator) (a before : List ℕ) where
   all = drawn (generate a) (length before) (g .key)
 
   pub draw-refused : (k : ℕ) → k ≡ number → (k ≡ 0 → ⊥)
-      → (record { number = k; runs = 0; generator = g } ≡ drawAnswer g a (length before)) × (before ≡ drawOutput g a before)
+      → (refused k g ≡ drawAnswer g a (length before)) × (before ≡ drawOutput g a before)
   unfolding drawAnswer drawOutput
   draw-refused k e some = (
-    refused k (drawRuns (length before)) (holding (all .key)) g some
+    refused-with k (drawRuns (length before)) (holding (all .key)) g some
         ∙ ap (λ (j : ℕ). answerWith j (drawRuns (length before)) (holding (all .key)) g) e,
     unwritten k (all .stream) before some ∙ ap (λ (j : ℕ). writtenWith j (all .stream) before) e,
   )

@@ -1,7 +1,7 @@
 -- The cSHAKE256 calls that a seeding and a piece are made of: what the sponge gives after their input, and how often it was permuted.
 use mathlib.Core.Path.{_≡_, refl, sym, ap, _∙_}
-use mathlib.Core.List.{List, [], _∷_, _++_, append-nil}
-use Prim.Native.Nat.{ℕ, _+_, _-_, _*_, _/_, _%_, _≤_, _<_}
+use mathlib.Core.List.{List, [], _++_, append-nil}
+use Prim.Native.Nat.{ℕ, _+_, _-_, _/_, _%_, _≤_, _<_}
 use native.Mathlib.Nat.{mod-eq-of-lt}
 use native.Mathlib.Omega.{arith}
 use borrow.Author.Tests.{le-ltb}
@@ -9,7 +9,7 @@ use lib.ListN.{length, take, drop, length-append, length-drop}
 use lib.Seq.{take-at, drop-at}
 use Rattle.encode.specs.Encode.{lengthSuffixed}
 use Rattle.calls.specs.Limits.{maxCustomisation, maxMessage}
-use Rattle.calls.specs.Start.{Start, named, startRefusal, startPrefix, startSuffix}
+use Rattle.calls.specs.Start.{named, startRefusal, startPrefix, startSuffix}
 use Rattle.calls.specs.Call.{Call, cSHAKE256, cshake256, refusal, Accepted, fed, startOf, messageOf, outputOf, ending}
 use Rattle.calls.specs.Count.{outputRuns, count, runs}
 use Rattle.calls.specs.Laws.Fed.{fed-parts}
@@ -24,8 +24,7 @@ use Rattle.hash.specs.declared.Outcome.{Outcome}
 use Rattle.hash.specs.Outcome.{outcome, writtenWith, written}
 use Rattle.hash.specs.Private.{Ran}
 use Rattle.hash.proofs.Answers.{answered}
-use Rattle.pieces.specs.Pieces.{Generated}
-use Rattle.generator.specs.Draw.{generateName, pieceCall, generate}
+use Rattle.generator.specs.Draw.{pieceCall, generate}
 
 -- an accepted call, its start s, its message put in and the input ended
 module _ (X N S : List ℕ) (n : ℕ) (ok : Accepted (cshake256 X n N S)) (s : Started) (h : Starts (named N S) s) (a d : List ℕ) (p : ℕ)

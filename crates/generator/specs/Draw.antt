@@ -1,7 +1,7 @@
 -- Draws of the cSHAKE generator (source document 003, 1.1.4 and 1.1.5; document 01, 'The generator').
 use mathlib.Core.Bool.{Bool, cond}
 use mathlib.Core.List.{List, [], _∷_}
-use Prim.Native.Nat.{ℕ, zero, suc, _*_}
+use Prim.Native.Nat.{ℕ, _*_}
 use lib.Dec.{ltb}
 use lib.ListN.{length, take, drop}
 use Rattle.encode.specs.Encode.{lengthSuffixed}

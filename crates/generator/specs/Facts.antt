@@ -8,8 +8,8 @@ use native.Mathlib.Omega.{arith}
 use lib.ListN.{length, length-append}
 use Rattle.encode.specs.Digits.{widthIn}
 use Rattle.encode.specs.Encode.{lengthSuffixed}
-use Rattle.calls.specs.Count.{outputRuns, runs}
-use Rattle.calls.specs.Laws.Runs.{cshakeBlocks, runs-by-lengths}
+use Rattle.calls.specs.Count.{runs}
+use Rattle.calls.specs.Laws.Runs.{runs-by-lengths}
 use Rattle.pieces.specs.Pieces.{pieces}
 use Rattle.generator.specs.Draw.{pieceCall, drawRefusal, drawRuns}
 

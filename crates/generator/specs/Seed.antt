@@ -19,8 +19,12 @@ freshGenerator = record { key = replicate 64 0; seeded = false }
 abbrev pub holding : List ℕ → Generator
 holding key = record { key = key; seeded = true }
 
+-- a refusal: no run, and the state as it was
+abbrev pub refused : ℕ → Generator → Answer
+refused k before = record { number = k; runs = 0; generator = before }
+
 -- beside the number k, a state: the one after the step, or the one before it
-abbrev pub handedBack : ℕ → Generator → Generator → Generator
+abbrev pub handedBack : ℕ → (after before : Generator) → Generator
 handedBack zero after before = after
 handedBack (suc k) after before = before
 

@@ -8,7 +8,7 @@ ghost use Rattle.encode.specs.Encode.{lengthSuffixed};
 ghost use Rattle.sponge.specs.Running.{running, absorbed};
 ghost use Rattle.alike.specs.Seeding.{seedRefusal};
 ghost use Rattle.pieces.specs.Pieces.{drawn};
-ghost use Rattle.generator.specs.Seed.{freshGenerator, seeding, seedAnswer};
+ghost use Rattle.generator.specs.Seed.{freshGenerator, refused, seeding, seedAnswer};
 ghost use Rattle.generator.specs.Draw.{generate, drawRefusal, drawAnswer, drawOutput};
 use calls::MAX_OUTPUT;
 use sponge::absorb;
@@ -46,6 +46,17 @@ pub fn fresh() -> Generator
     }
 }
 
+// No run, and the state as it was.
+fn refuse(number: u8, generator: Generator) -> Answer
+    ensures { λ r. ⌜ r ≡ refused number generator ⌝ }
+{
+    Answer {
+        number,
+        runs: 0,
+        generator,
+    }
+}
+
 // encode(a) put in from `position` on: the bytes, then one byte with their number (1.1.2); the position after it.
 fn absorb_encoded(lanes: &mut [u64; 25], position: usize, a: &[u8]) -> usize
     requires { ⌜ length (now a) ≤ 84 ⌝ }
@@ -74,11 +85,7 @@ pub fn seed(generator: Generator, seed: &[u8], personalisation: &[u8]) -> Answer
 {
     let number = seed_refusal(seed, personalisation);
     if number != 0 {
-        return Answer {
-            number,
-            runs: 0,
-            generator,
-        };
+        return refuse(number, generator);
     }
     let old = generator.key;
     let start = start_named(b"cSHAKE-DRNG seed", &old);
@@ -153,17 +160,16 @@ pub fn draw(generator: Generator, additional: &[u8], out: &mut [u8]) -> Answer
     let n = out.len();
     let number = draw_refusal(generator.seeded, additional.len(), n);
     if number != 0 {
-        return Answer {
-            number,
-            runs: 0,
-            generator,
-        };
+        return refuse(number, generator);
     }
     let old = generator.key;
-    let key = draw_pieces(old, additional, out);
+    let last = draw_pieces(old, additional, out);
     Answer {
         number: 0,
         runs: 3 * pieces::count(n),
-        generator: Generator { key, seeded: true },
+        generator: Generator {
+            key: last,
+            seeded: true,
+        },
     }
 }

@@ -1,6 +1,8 @@
 // Runs the cSHAKE generator over document 01's counts and limits and over a long draw, and prints number, count, state and output of each step. The expected
 // output is that of reference/generator_cases.py.
+ghost use mathlib.Core.Path.{_≡_};
 ghost use Prim.Native.Nat.{_≤_};
+ghost use lib.ListN.{length};
 use generator::Answer;
 use generator::Generator;
 use libc::STDOUT_FILENO;
@@ -48,11 +50,17 @@ fn draw_into(title: &[u8], state: Generator, additional: &[u8], out: &mut [u8]) 
     after
 }
 
+fn unwritten() -> [u8; 512]
+    ensures { λ r. ⌜ 512 ≡ length r ⌝ }
+{
+    [0xaau8; 512]
+}
+
 // A draw of `bytes` into bytes that held AA before.
 fn draw_case(title: &[u8], state: Generator, additional: &[u8], bytes: usize) -> Generator
     requires { ⌜ bytes ≤ 512 ⌝ }
 {
-    let mut out = [0xaau8; 512];
+    let mut out = unwritten();
     draw_into(title, state, additional, &mut out[..bytes])
 }
 
@@ -89,7 +97,7 @@ fn pattern() -> [u8; 65536] {
     bytes
 }
 
-fn one_more() -> [u8; 65537] {
+fn past_65536() -> [u8; 65537] {
     [0u8; 65537]
 }
 
@@ -106,7 +114,7 @@ fn limits(state: Generator) -> Generator {
     let d = seed_case(b"personalisation of 85", c, b"seed", &short);
     let long = pattern();
     let e = seed_case(b"seed of 65,536", d, &long, b"");
-    let longer = one_more();
+    let longer = past_65536();
     let f = seed_case(b"seed of 65,537", e, &longer, b"");
     let g = seed_case(b"seed of 65,537, personalisation of 85", f, &longer, &short);
     draw_case(b"after the refusals", g, b"", 32)

@@ -16,6 +16,9 @@ pub record PieceFacts (generate : List ℕ → Generated) (key : List ℕ) : Typ
   pub none : drawn generate 0 key ≡ record { key = key; stream = [] }
   -- 20 bytes: the beginning of one piece
   pub twenty : drawn generate 20 key ≡ record { key = generate key .key; stream = take 20 (generate key .stream ++ []) }
+  -- 209 bytes: a piece, and the beginning of the next, from the key that the first left
+  pub two : drawn generate 209 key
+      ≡ record { key = generate (generate key .key) .key; stream = take 209 (generate key .stream ++ (generate (generate key .key) .stream ++ [])) }
 
 pub pieceFacts : (generate : List ℕ → Generated) (key : List ℕ) → PieceFacts generate key
 unfolding pieces cut keyAfter streamOf drawn
@@ -29,4 +32,5 @@ pieceFacts generate key =
       cut209 = refl;
       none = refl;
       twenty = refl;
+      two = refl;
     }

@@ -1,15 +1,13 @@
 -- Laws on a request cut into pieces, over any generator: the turn of the loop that makes the pieces, and draws in a row.
-use mathlib.Core.Path.{_≡_, refl, sym, ap, ap₂, _∙_}
-use mathlib.Core.Bool.{Bool, true, false, cond}
-use mathlib.Core.List.{List, [], _∷_, _++_, append-assoc, append-nil}
-use Prim.Native.Nat.{ℕ, zero, suc, _+_, _-_, _*_, _/_, _≤_, _<_}
+use mathlib.Core.Path.{_≡_, refl, sym, ap, _∙_}
+use mathlib.Core.List.{List, [], _++_, append-assoc, append-nil}
+use Prim.Native.Nat.{ℕ, zero, suc, _+_, _-_, _*_, _≤_, _<_}
 use native.Mathlib.Nat.{zero-add, suc-add}
 use native.Mathlib.Decide.{decLe}
 use native.Mathlib.Omega.{arith}
 use borrow.Author.Tests.{lt-ltb, le-ltb}
-use lib.Dec.{ltb}
-use lib.ListN.{length, take, drop, length-append, length-take}
-use lib.Seq.{take-append-le, take-append-add, take-all, take-at, take-length, length-take-le}
+use lib.ListN.{length, take, length-append}
+use lib.Seq.{take-append-le, take-append-add, take-all, take-at, length-take-le}
 use Rattle.pieces.specs.Pieces.{Generated, pieces, cut, keyAfter, streamOf, drawn}
 
 -- stream given before what a request hands back

@@ -12,8 +12,10 @@ use Rattle.generator.proofs.draw.Tie as tie
 
 returns : tie.Need-returns
 returns c =
-    let a = c .before .before .before .before .args in
-    draw-refused (a .generator) (a .additional .now) (a .out .now) (c .before .draw-refusal .result) (c .before .draw-refusal .ensures) (c .if1 .taken)
+    let a = c .before .before .before .before .before .args in
+    let number = c .before .before .draw-refusal in
+    let answer = draw-refused (a .generator) (a .additional .now) (a .out .now) (number .result) (number .ensures) (c .before .if1 .taken) in
+    (c .refuse .ensures ∙ answer .0, answer .1)
 
 -- what holds past the refusals
 tested : (c : tie.Else1) → (drawRefusal (c .before .before .before .before .args .generator .seeded) (length (c .before .before .before .before .args .additional .now)) (length (c .before .before .before .before .args .out .now)) ≡ 0)
@@ -41,6 +43,7 @@ pub draw-spec : {M : Type 1} → statement M
 draw-spec =
     tie.close
     (tie.spec
+    (λ c κs. search needs)
     (λ c κs. search needs)
     returns
     draw-pieces-requires

@@ -7,7 +7,7 @@ use borrow.Author.Needs.{needs}
 use borrow.Rule.Slice.PartMut.{postOf, same-len-mid, mid-len}
 use lib.ListN.{length, take, drop, length-take}
 use lib.Seq.{length-take-le}
-use Rattle.pieces.specs.Pieces.{Generated, drawn}
+use Rattle.pieces.specs.Pieces.{drawn}
 use Rattle.pieces.specs.Laws.{before, cut-fits, cut-some, drawn-turn, drawn-end}
 use Rattle.generator.specs.Draw.{generate}
 use Rattle.generator.proofs.Calls.{piece-sized}

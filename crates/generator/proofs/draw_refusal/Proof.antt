@@ -1,6 +1,4 @@
 -- The tests are those of the definition, in its order.
-use mathlib.Core.Path.{_≡_, refl, sym}
-use borrow.Author.Needs.{needs}
 use borrow.Author.Tests.{not-true, not-false, lt-ltb, le-ltb}
 use Rattle.generator.specs.Draw.{drawRefusal}
 use Rattle.generator.proofs.draw_refusal.Statement.{statement}

@@ -1,6 +1,6 @@
 -- The calls make the input of the definition's cSHAKE256 call (`Calls.call-output`); the two squeezes give its first 64 bytes, then as many of the others
 -- as `out` has.
-use mathlib.Core.Path.{_≡_, ap, _∙_}
+use mathlib.Core.Path.{ap, _∙_}
 use native.Mathlib.Omega.{arith}
 use borrow.Author.Needs.{needs}
 use lib.ListN.{length}

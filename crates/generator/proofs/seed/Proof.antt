@@ -2,7 +2,7 @@
 -- (`Calls.call-output`), and the count is the sum of their permutations.
 use mathlib.Core.Path.{_≡_, sym, ap, _∙_}
 use mathlib.Core.List.{_++_}
-use Prim.Native.Nat.{ℕ, _+_, _≤_}
+use Prim.Native.Nat.{_+_, _≤_}
 use native.Mathlib.Nat.{mod-eq-of-lt}
 use native.Mathlib.Omega.{arith}
 use borrow.Author.Needs.{needs}
@@ -20,8 +20,10 @@ use Rattle.generator.proofs.seed.Tie as tie
 
 returns : tie.Need-returns
 returns c =
-    let a = c .before .before .before .before .args in
-    seed-refused (a .generator) (a .seed .now) (a .personalisation .now) (c .before .seed-refusal .result) (c .before .seed-refusal .ensures (a .generator .key)) (c .if1 .taken)
+    let a = c .before .before .before .before .before .args in
+    let number = c .before .before .seed-refusal in
+    c .refuse .ensures
+    ∙ seed-refused (a .generator) (a .seed .now) (a .personalisation .now) (number .result) (number .ensures (a .generator .key)) (c .before .if1 .taken)
 
 -- what holds past the refusals
 tested : (c : tie.Else1) → (seedRefusal (seeding (c .before .before .before .before .args .generator .key) (c .before .before .before .before .args .seed .now) (c .before .before .before .before .args .personalisation .now)) ≡ 0)
@@ -69,6 +71,7 @@ pub seed-spec : {M : Type 1} → statement M
 seed-spec =
     tie.close
     (tie.spec
+    (λ c κs. search needs)
     (λ c κs. search needs)
     returns
     (λ c. search needs)

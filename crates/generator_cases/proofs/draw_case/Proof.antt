@@ -10,4 +10,4 @@ slice-aggregate-draw-into : tie.Need-slice-aggregate-draw-into
 slice-aggregate-draw-into c = sym (length-take-le _ _ (omega arith))
 
 pub draw-case-spec : {M : Type 1} → statement M
-draw-case-spec = tie.close (tie.spec (λ c. search needs) slice-aggregate-draw-into (λ c κs. search needs) (λ c. search needs))
+draw-case-spec = tie.close (tie.spec (λ c κs. search needs) (λ c. search needs) slice-aggregate-draw-into (λ c κs. search needs) (λ c. search needs))
