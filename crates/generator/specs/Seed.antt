@@ -15,7 +15,7 @@ use Rattle.generator.specs.declared.Answer.{Answer}
 abbrev pub freshGenerator : Generator
 freshGenerator = record { key = replicate 64 0; seeded = false }
 
--- seeded, or seeded before, with this key
+-- a seeded state with this key
 abbrev pub holding : List ℕ → Generator
 holding key = record { key = key; seeded = true }
 

@@ -128,10 +128,10 @@ fn piece(old: [u8; 64], additional: &[u8], out: &mut [u8]) -> [u8; 64]
     let mut lanes = start.lanes;
     let end = absorb_encoded(&mut lanes, 0, additional);
     finish(&mut lanes, end, start.suffix);
-    let mut key = [0u8; 64];
-    let next = squeeze(&mut lanes, 0, &mut key);
-    squeeze(&mut lanes, next, out);
-    key
+    let mut next_key = [0u8; 64];
+    let position = squeeze(&mut lanes, 0, &mut next_key);
+    squeeze(&mut lanes, position, out);
+    next_key
 }
 
 // `out` filled piece by piece (1.1.5); the key after the last piece.
