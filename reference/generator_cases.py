@@ -30,23 +30,31 @@ def draw_case(title, generator, additional, length):
     return after
 
 
-def first_draws():
-    """Draws before and after the first seeding, which is of nothing."""
+def never_seeded():
+    """Draws before the first seeding."""
     state = draw_case("never seeded, 0 bytes", Generator(), b"", 0)
-    state = draw_case("never seeded, 10 bytes", state, b"", 10)
+    return draw_case("never seeded, 10 bytes", state, b"", 10)
+
+
+def first_draws(state):
+    """A seeding of nothing, and a draw of 20 beside two of 10."""
     state = seed_case("empty seed", state, b"", b"")
     state = draw_case("0 bytes", state, b"", 0)
     draw_case("20 bytes", state, b"", 20)
     state = draw_case("10 bytes", state, b"", 10)
-    state = draw_case("10 bytes more", state, b"", 10)
-    return seed_case("seeded again", state, b"parcels", b"depot 7")
+    return draw_case("10 bytes more", state, b"", 10)
+
+
+def short_draws(state):
+    """Both sides of the end of a piece's first output block."""
+    state = seed_case("seeded again", state, b"parcels", b"depot 7")
+    state = draw_case("1 byte", state, b"", 1)
+    state = draw_case("72 bytes", state, b"hall", 72)
+    return draw_case("73 bytes", state, b"hall", 73)
 
 
 def piece_draws(state):
-    """Both sides of a piece's end, and of its first block's."""
-    state = draw_case("1 byte", state, b"", 1)
-    state = draw_case("72 bytes", state, b"hall", 72)
-    state = draw_case("73 bytes", state, b"hall", 73)
+    """Both sides of a piece's end."""
     state = draw_case("207 bytes", state, b"", 207)
     state = draw_case("208 bytes", state, b"", 208)
     state = draw_case("209 bytes", state, b"", 209)
@@ -54,12 +62,16 @@ def piece_draws(state):
     return draw_case("417 bytes", state, b"line", 417)
 
 
-def limits(state):
-    """Both sides of each limit but that of the output."""
+def short_limits(state):
+    """Both sides of the limit of additional input and personalisation."""
     state = draw_case("additional input of 84", state, SHORT[:84], 32)
     state = draw_case("additional input of 85", state, SHORT, 32)
     state = seed_case("personalisation of 84", state, b"seed", SHORT[:84])
-    state = seed_case("personalisation of 85", state, b"seed", SHORT)
+    return seed_case("personalisation of 85", state, b"seed", SHORT)
+
+
+def seed_limits(state):
+    """Both sides of the limit of the seed."""
     state = seed_case("seed of 65,536", state, PATTERN, b"")
     state = seed_case("seed of 65,537", state, bytes(65_537), b"")
     state = seed_case("seed of 65,537, personalisation of 85", state, bytes(65_537), SHORT)
@@ -74,7 +86,10 @@ def long_draw(state):
 
 
 def main():
-    long_draw(limits(piece_draws(first_draws())))
+    state = never_seeded()
+    for steps in first_draws, short_draws, piece_draws, short_limits, seed_limits:
+        state = steps(state)
+    long_draw(state)
 
 
 if __name__ == "__main__":

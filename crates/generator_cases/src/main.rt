@@ -64,28 +64,36 @@ fn draw_case(title: &[u8], state: Generator, additional: &[u8], bytes: usize) ->
     draw_into(title, state, additional, &mut out[..bytes])
 }
 
-// Draws before and after the first seeding, which is of nothing.
-fn first_draws() -> Generator {
+// Draws before the first seeding.
+fn never_seeded() -> Generator {
     let a = draw_case(b"never seeded, 0 bytes", generator::fresh(), b"", 0);
-    let b = draw_case(b"never seeded, 10 bytes", a, b"", 10);
-    let c = seed_case(b"empty seed", b, b"", b"");
-    let d = draw_case(b"0 bytes", c, b"", 0);
-    draw_case(b"20 bytes", d, b"", 20);
-    let e = draw_case(b"10 bytes", d, b"", 10);
-    let f = draw_case(b"10 bytes more", e, b"", 10);
-    seed_case(b"seeded again", f, b"parcels", b"depot 7")
+    draw_case(b"never seeded, 10 bytes", a, b"", 10)
+}
+
+// A seeding of nothing, and a draw of 20 beside two of 10.
+fn first_draws(state: Generator) -> Generator {
+    let a = seed_case(b"empty seed", state, b"", b"");
+    let b = draw_case(b"0 bytes", a, b"", 0);
+    draw_case(b"20 bytes", b, b"", 20);
+    let c = draw_case(b"10 bytes", b, b"", 10);
+    draw_case(b"10 bytes more", c, b"", 10)
+}
+
+// Both sides of the end of a piece's first output block.
+fn short_draws(state: Generator) -> Generator {
+    let a = seed_case(b"seeded again", state, b"parcels", b"depot 7");
+    let b = draw_case(b"1 byte", a, b"", 1);
+    let c = draw_case(b"72 bytes", b, b"hall", 72);
+    draw_case(b"73 bytes", c, b"hall", 73)
 }
 
 // Both sides of a piece's end.
 fn piece_draws(state: Generator) -> Generator {
-    let a = draw_case(b"1 byte", state, b"", 1);
-    let b = draw_case(b"72 bytes", a, b"hall", 72);
-    let c = draw_case(b"73 bytes", b, b"hall", 73);
-    let d = draw_case(b"207 bytes", c, b"", 207);
-    let e = draw_case(b"208 bytes", d, b"", 208);
-    let f = draw_case(b"209 bytes", e, b"", 209);
-    let g = draw_case(b"416 bytes", f, b"line", 416);
-    draw_case(b"417 bytes", g, b"line", 417)
+    let a = draw_case(b"207 bytes", state, b"", 207);
+    let b = draw_case(b"208 bytes", a, b"", 208);
+    let c = draw_case(b"209 bytes", b, b"", 209);
+    let d = draw_case(b"416 bytes", c, b"line", 416);
+    draw_case(b"417 bytes", d, b"line", 417)
 }
 
 // 65,536 bytes: 3, 10, 17, .. modulo 256.
@@ -105,19 +113,24 @@ fn zeros() -> [u8; 500000] {
     [0u8; 500000]
 }
 
-// Both sides of each limit but that of the output.
-fn limits(state: Generator) -> Generator {
+// Both sides of the limit of additional input and personalisation.
+fn short_limits(state: Generator) -> Generator {
     let short = [0x77u8; 85];
     let a = draw_case(b"additional input of 84", state, &short[..84], 32);
     let b = draw_case(b"additional input of 85", a, &short, 32);
     let c = seed_case(b"personalisation of 84", b, b"seed", &short[..84]);
-    let d = seed_case(b"personalisation of 85", c, b"seed", &short);
+    seed_case(b"personalisation of 85", c, b"seed", &short)
+}
+
+// Both sides of the limit of the seed.
+fn seed_limits(state: Generator) -> Generator {
     let long = pattern();
-    let e = seed_case(b"seed of 65,536", d, &long, b"");
+    let a = seed_case(b"seed of 65,536", state, &long, b"");
     let longer = past_65536();
-    let f = seed_case(b"seed of 65,537", e, &longer, b"");
-    let g = seed_case(b"seed of 65,537, personalisation of 85", f, &longer, &short);
-    draw_case(b"after the refusals", g, b"", 32)
+    let b = seed_case(b"seed of 65,537", a, &longer, b"");
+    let short = [0x77u8; 85];
+    let c = seed_case(b"seed of 65,537, personalisation of 85", b, &longer, &short);
+    draw_case(b"after the refusals", c, b"", 32)
 }
 
 // A draw of 500,000 bytes, and SHAKE256 of them.
@@ -131,8 +144,11 @@ fn long_draw(state: Generator) {
 }
 
 fn main() {
-    let a = first_draws();
-    let b = piece_draws(a);
-    let c = limits(b);
-    long_draw(c);
+    let a = never_seeded();
+    let b = first_draws(a);
+    let c = short_draws(b);
+    let d = piece_draws(c);
+    let e = short_limits(d);
+    let f = seed_limits(e);
+    long_draw(f);
 }
