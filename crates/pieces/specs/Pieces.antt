@@ -1,0 +1,35 @@
+-- A request cut into pieces of 208 bytes (source document 003, 1.1.5 and 1.2.5; document 01, 'The generator': 'Draw'), for any generator: `generate`
+-- makes one piece from a key.
+use mathlib.Core.Bool.{cond}
+use mathlib.Core.List.{List, [], _++_}
+use Prim.Native.Nat.{ℕ, zero, suc, _+_, _/_}
+use lib.Dec.{ltb}
+use lib.ListN.{take}
+
+-- what a piece, or a whole request, hands back: the new key and the stream
+pub record Generated : Type 0 where
+  pub key : List ℕ
+  pub stream : List ℕ
+
+-- N: the pieces that n bytes take
+unfoldable pub pieces : ℕ → ℕ
+pieces n = (n + 207) / 208
+
+-- the bytes of the next piece, where n are left to give: the last piece is cut
+unfoldable pub cut : ℕ → ℕ
+cut n = cond (ltb n 208) n 208
+
+module _ (generate : List ℕ → Generated) where
+  -- TMP_K(m): the key after m pieces
+  unfoldable pub keyAfter : ℕ → List ℕ → List ℕ
+  keyAfter zero key = key
+  keyAfter (suc m) key = keyAfter m (generate key .key)
+
+  -- R(1), R(2), .. R(m): the stream of m pieces, joined
+  unfoldable pub streamOf : ℕ → List ℕ → List ℕ
+  streamOf zero key = []
+  streamOf (suc m) key = generate key .stream ++ streamOf m (generate key .key)
+
+  -- a request of n bytes
+  unfoldable pub drawn : ℕ → List ℕ → Generated
+  drawn n key = record { key = keyAfter (pieces n) key; stream = take n (streamOf (pieces n) key) }

@@ -1,0 +1,25 @@
+// A request for stream cut into pieces of 208 bytes, the last one cut (source document 003, 1.1.5; document 01, 'The generator'). What makes a piece is a
+// generator's own; the definitions and the laws that a generator's loop is proved by stand in specs/.
+ghost use mathlib.Core.Path.{_≡_};
+ghost use Rattle.pieces.specs.Pieces.{pieces, cut};
+
+// 2 * 1,088 - 512 bits.
+pub const PIECE: usize = 208;
+
+// The pieces that a request of this many bytes takes.
+pub fn count(bytes: usize) -> usize
+    ensures { λ r. ⌜ r ≡ pieces bytes ⌝ }
+{
+    if bytes == 0 {
+        0
+    } else {
+        (bytes - 1) / PIECE + 1
+    }
+}
+
+// The bytes of the next piece, where this many are left to give.
+pub fn next(left: usize) -> usize
+    ensures { λ r. ⌜ r ≡ cut left ⌝ }
+{
+    if left < PIECE { left } else { PIECE }
+}
