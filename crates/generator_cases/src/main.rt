@@ -5,31 +5,22 @@ ghost use Prim.Native.Nat.{_≤_};
 ghost use lib.ListN.{length};
 use generator::Answer;
 use generator::Generator;
-use libc::STDOUT_FILENO;
-
-fn wide(b: u8) -> u64 {
-    b as u64
-}
-
-fn print_bytes(bytes: &[u8]) {
-    for i in 0..bytes.len() {
-        io::print_hex(STDOUT_FILENO, wide(bytes[i]), 2);
-    }
-    io::write_all(STDOUT_FILENO, b"\n");
-}
+use testing::print;
+use testing::print_bytes;
+use testing::print_number;
 
 // A heading with the number and the count, and a line with the state.
 fn print_answer(title: &[u8], answer: Answer) {
-    io::write_all(STDOUT_FILENO, title);
-    io::write_all(STDOUT_FILENO, b": number ");
-    io::print_decimal(STDOUT_FILENO, wide(answer.number));
-    io::write_all(STDOUT_FILENO, b", runs ");
-    io::print_decimal(STDOUT_FILENO, answer.runs as u64);
+    print(title);
+    print(b": number ");
+    print_number(answer.number as u64);
+    print(b", runs ");
+    print_number(answer.runs as u64);
     let state = answer.generator;
     if state.seeded {
-        io::write_all(STDOUT_FILENO, b"\nseeded ");
+        print(b"\nseeded ");
     } else {
-        io::write_all(STDOUT_FILENO, b"\nnever seeded ");
+        print(b"\nnever seeded ");
     }
     let key = state.key;
     print_bytes(&key);
@@ -96,15 +87,6 @@ fn piece_draws(state: Generator) -> Generator {
     draw_case(b"417 bytes", d, b"line", 417)
 }
 
-// 65,536 bytes: 3, 10, 17, .. modulo 256.
-fn pattern() -> [u8; 65536] {
-    let mut bytes = [0u8; 65536];
-    for i in 0..65536 {
-        bytes[i] = ((7 * i + 3) % 256) as u8;
-    }
-    bytes
-}
-
 fn past_65536() -> [u8; 65537] {
     [0u8; 65537]
 }
@@ -124,7 +106,8 @@ fn short_limits(state: Generator) -> Generator {
 
 // Both sides of the limit of the seed.
 fn seed_limits(state: Generator) -> Generator {
-    let long = pattern();
+    let mut long = [0u8; 65536];
+    testing::fill(&mut long, 3, 7);
     let a = seed_case(b"seed of 65,536", state, &long, b"");
     let longer = past_65536();
     let b = seed_case(b"seed of 65,537", a, &longer, b"");
