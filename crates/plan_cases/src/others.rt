@@ -26,9 +26,8 @@ fn location_line(refusal: u8, source: Source, start: usize, part: &[u8]) {
 fn pair_chute<'a>(site: &'a [u8], house: &'a [u8], chute: u32) {
     let location = plan_pair::row_location(site, house, chute);
     let source = location.source;
-    let mut refusal: u8 = 255;
-    let bytes = plan_pair::row_bytes(site, house, chute, &mut refusal);
-    location_line(refusal, source, location.start, bytes);
+    let bytes = plan_pair::row_bytes(site, house, chute);
+    location_line(location.refusal, source, location.start, bytes);
     let part = plan_pair::row_part(site, house, location);
     location_line(location.refusal, source, location.start, part);
 }

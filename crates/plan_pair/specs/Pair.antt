@@ -64,8 +64,7 @@ addressOf site house l = addressIn (l .source) site house (l .start) (l .length)
 unfoldable pub rowBytesOf : List ℕ → List ℕ → ℕ → List ℕ
 rowBytesOf site house chute = partOf site house (locationOf site house chute)
 
--- the bytes r of a chute's row, where they stand, and the refusal: the empty part on a refusal
-pub record RowBytes (site house : RefT (List ℕ)) (chute : ℕ) (r : RefT (List ℕ)) (refusal : ℕ) : Type 0 where
+-- the bytes r of a chute's row, and where they stand: the empty part on a refusal
+pub record RowBytes (site house : RefT (List ℕ)) (chute : ℕ) (r : RefT (List ℕ)) : Type 0 where
   pub bytes : now r ≡ rowBytesOf (now site) (now house) chute
   pub address : r .ptr ≡ addressOf site house (locationOf (now site) (now house) chute)
-  pub number : refusal ≡ locationOf (now site) (now house) chute .refusal

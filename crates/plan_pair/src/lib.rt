@@ -118,11 +118,11 @@ pub fn row_part<'a>(site: &'a [u8], house: &'a [u8], location: RowLocation) -> &
     }
 }
 
-// The bytes of a chute's row, as a part of the plan it came from, empty on a refusal; the refusal goes to the lent number.
-pub fn row_bytes<'a>(site: &'a [u8], house: &'a [u8], chute: u32, refusal: &mut u8) -> &'a [u8]
-    ensures { λ r. ⌜ RowBytes (site .entry) (house .entry) chute r (now (refusal .exit)) ⌝ }
+// The bytes of a chute's row, as a part of the plan it came from. A row has at least one byte, so the part is empty exactly on a refusal, whose number
+// `row_location` tells: nothing is lent to be written, so a refusal writes nothing.
+pub fn row_bytes<'a>(site: &'a [u8], house: &'a [u8], chute: u32) -> &'a [u8]
+    ensures { λ r. ⌜ RowBytes (site .entry) (house .entry) chute r ⌝ }
 {
     let location = row_location(site, house, chute);
-    *refusal = location.refusal;
     row_part(site, house, location)
 }

@@ -1,9 +1,8 @@
--- The location is found, its refusal stored, and the part at it returned.
+-- The location is found, and the part at it returned.
 -- Each is what the definition is made of.
 use mathlib.Core.Path.{_≡_, refl, sym, ap, _∙_}
 use denote.Ref.{now}
 use Rattle.plan_pair.specs.Pair.{locationOf, partOf, addressOf, rowBytesOf}
-use Rattle.plan_pair.specs.declared.RowLocation.{RowLocation}
 use borrow.Author.Needs.{needs}
 use Rattle.plan_pair.proofs.row_bytes.Statement.{statement}
 use Rattle.plan_pair.proofs.row_bytes.Tie as tie
@@ -23,7 +22,6 @@ returns c =
     record {
       bytes = part .0 ∙ ap (partOf (now (a .site)) (now (a .house))) e;
       address = part .1 ∙ ap (addressOf (a .site) (a .house)) e;
-      number = ap (λ (l : RowLocation). l .refusal) e;
     }
 
 pub row-bytes-spec : {M : Type 1} → statement M
