@@ -17,6 +17,10 @@ pub const MAX_MESSAGE: usize = 16777216;
 
 pub const MAX_OUTPUT: usize = 16777216;
 
+// The name of the standard's own function: compared with a lent name here, and put into the prefix of
+// a keyed start.
+pub const KMAC: [u8; 4] = *b"KMAC";
+
 // The number that cSHAKE256 with this name and this customisation is refused with, or 0.
 pub fn named_refusal(name: &[u8], customisation: &[u8]) -> u8
     ensures { λ r. ⌜ r ≡ startRefusal (named (now (name .entry)) (now (customisation .entry))) ⌝ }
@@ -27,7 +31,7 @@ pub fn named_refusal(name: &[u8], customisation: &[u8]) -> u8
     if MAX_CUSTOMISATION < customisation.len() {
         return 3;
     }
-    if check::same(name, b"KMAC") {
+    if check::same(name, &KMAC) {
         return 4;
     }
     0

@@ -1,5 +1,4 @@
--- Numbers as digits to a base b, the lowest digit first. The bytes of an encoded length (SP 800-185, 2.3.1) are digits to the base 256, the chute plan's
--- groups of seven bits digits to the base 128.
+-- Numbers as digits to a base b, the lowest digit first: the bytes of an encoded length (SP 800-185, 2.3.1) are digits to the base 256.
 use mathlib.Core.Bool.{true, false}
 use mathlib.Core.List.{List, [], _∷_}
 use Prim.Native.Nat.{ℕ, zero, suc, _+_, _*_, _/_, _%_}

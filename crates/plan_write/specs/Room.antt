@@ -1,4 +1,4 @@
--- What the writers of a number and of rows ask of their caller: the values fit, and there is room for them.
+-- What the writers of a number and of rows ask of their caller: the values fit, and there is room for them. No public contract cites it.
 use Prim.Native.Nat.{ℕ, _+_, _≤_, _<_}
 use mathlib.Core.Path.{_≡_}
 use mathlib.Core.List.{List}

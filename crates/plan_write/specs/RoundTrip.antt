@@ -1,4 +1,4 @@
--- Laws: reading what was written gives the rows (document 01, demand 2).
+-- Laws: reading what was written gives the rows (document 01, 'The chute plan').
 use mathlib.Core.Path.{_≡_, refl, sym, ap, _∙_}
 use mathlib.Core.List.{List, [], _∷_, _++_, map}
 use mathlib.Core.Bool.{Bool, true, false, cond, _&&_}

@@ -15,7 +15,7 @@ use Rattle.sponge.specs.Sponge.{sponge}
 use Rattle.sponge.proofs.Whole.{length-sponge, sponge-prefix}
 use Rattle.seal.specs.KeyStream.{combined}
 use Rattle.seal.specs.Seal.{Arguments, keyStreamCall, keyStream, textStream, authenticationKey, converted, tagCall, tagOf, lengthsRefusal, sealRefusal, openRefusal}
-use Rattle.seal.specs.RoundTrip.{onCiphertext, OpensWhatWasSealed, CutTagsOpen}
+use Rattle.seal.specs.RoundTrip.{AcceptsExactly, onCiphertext, OpensWhatWasSealed, CutTagsOpen}
 use Rattle.seal.proofs.Combining.{length-combined, combined-twice}
 use Rattle.seal.proofs.Outcomes.{lengths-accepted}
 
@@ -35,6 +35,23 @@ accepts a n tag e is =
     ap (λ (k : ℕ). firstOf k (cond (sameBytes tag (tagOf a (a .text) (length tag))) 0 8)) e
     ∙ ap (λ (l : List ℕ). cond (sameBytes tag l) 0 8) (sym is)
     ∙ ap (λ (b : Bool). cond b 0 8) (sameBytes-self tag)
+
+-- ---- opening accepts exactly the tag that is worked out afresh
+
+passed : (b : Bool) → _≡_ {A = ℕ} (cond b 0 8) 0 → b ≡ true
+passed true e = refl
+passed false e = absurd (omega arith)
+
+opened : (a : Arguments) (n : ℕ) (tag : List ℕ) → openRefusal a n tag ≡ 0 → (sealRefusal a n (length tag) ≡ 0) × (tag ≡ tagOf a (a .text) (length tag))
+unfolding openRefusal
+opened a n tag e =
+    let r = firstOf-passed (sealRefusal a n (length tag)) _ e in
+    (r .0, sameBytes-equal tag (tagOf a (a .text) (length tag)) (passed (sameBytes tag (tagOf a (a .text) (length tag))) (r .1)))
+
+pub accepts-exactly : AcceptsExactly
+accepts-exactly a n tag e = ((λ h. opened a n tag h .1), accepts a n tag e)
+
+-- ---- opening undoes sealing
 
 module _ (a : Arguments) where
   same-length : length (converted a) ≡ length (a .text)
@@ -62,16 +79,6 @@ opens-what-was-sealed a n t e =
     (accepts (onCiphertext a) n tag lengths is, text-back a)
 
 -- ---- cuts
-
-passed : (b : Bool) → _≡_ {A = ℕ} (cond b 0 8) 0 → b ≡ true
-passed true e = refl
-passed false e = absurd (omega arith)
-
-opened : (a : Arguments) (n : ℕ) (tag : List ℕ) → openRefusal a n tag ≡ 0 → (sealRefusal a n (length tag) ≡ 0) × (tag ≡ tagOf a (a .text) (length tag))
-unfolding openRefusal
-opened a n tag e =
-    let r = firstOf-passed (sealRefusal a n (length tag)) _ e in
-    (r .0, sameBytes-equal tag (tagOf a (a .text) (length tag)) (passed (sameBytes tag (tagOf a (a .text) (length tag))) (r .1)))
 
 -- the lengths' number does not change from one accepted tag to another
 other-tag : (key iv text label out tag m : ℕ) → lengthsRefusal key iv text label out tag ≡ 0 → 16 ≤ m → m ≤ 64 → lengthsRefusal key iv text label out m ≡ 0

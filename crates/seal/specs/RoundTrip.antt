@@ -1,9 +1,16 @@
--- What demand 2 says of sealing and opening together. proofs/RoundTrip.antt proves both.
+-- What demand 2 says of sealing and opening. proofs/RoundTrip.antt proves it.
 use mathlib.Core.Path.{_≡_}
+use mathlib.Core.Logic.{_↔_}
 use mathlib.Core.List.{List}
 use Prim.Native.Nat.{ℕ, _≤_}
 use lib.ListN.{length, take}
 use Rattle.seal.specs.Seal.{Arguments, converted, tagOf, sealRefusal, openRefusal}
+
+-- once the length checks are passed, opening accepts exactly if the tag equals the one worked out afresh, over its whole length
+abbrev pub AcceptsExactly : Type 0
+AcceptsExactly =
+    (a : Arguments) (n : ℕ) (tag : List ℕ) → sealRefusal a n (length tag) ≡ 0
+    → (openRefusal a n tag ≡ 0) ↔ (tag ≡ tagOf a (a .text) (length tag))
 
 -- the same key, IV and label with the ciphertext for the text
 abbrev pub onCiphertext : Arguments → Arguments

@@ -32,7 +32,7 @@ authenticationKey key iv n = take 32 (keyStream key iv n)
 unfoldable pub textStream : List ℕ → List ℕ → ℕ → List ℕ
 textStream key iv n = drop 32 (keyStream key iv n)
 
--- 1.2.4 and 1.2.5: the text made of another, ciphertext of plaintext and back
+-- the text combined with it: ciphertext of plaintext, and back (1.2.4 and 1.2.5)
 unfoldable pub converted : Arguments → List ℕ
 converted a = combined (a .text) (textStream (a .key) (a .iv) (length (a .text)))
 

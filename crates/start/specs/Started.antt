@@ -26,7 +26,7 @@ startedWith (suc k) s = refused (suc k)
 unfoldable pub started : Start → Started
 started s = startedWith (startRefusal s) s
 
--- the answer, with a bound on its blocks: two strings of 4,096 bytes take at most 61 blocks together
+-- the answer, with a bound on its blocks: two strings of 4,096 bytes take at most 62 blocks together
 pub record Starts (s : Start) (r : Started) : Type 0 where
   pub is : r ≡ started s
   pub few : r .blocks ≤ 128

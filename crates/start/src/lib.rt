@@ -2,6 +2,7 @@
 ghost use mathlib.Core.Path.{_≡_};
 ghost use Rattle.calls.specs.Start.{named, keyed};
 ghost use Rattle.start.specs.Started.{refused, Starts};
+use calls::KMAC;
 use prefix::absorb_key;
 use prefix::absorb_name;
 
@@ -64,7 +65,7 @@ pub fn start_keyed(key: &[u8], customisation: &[u8]) -> Started
         return refuse(number);
     }
     let mut lanes = [0u64; 25];
-    let name_blocks = absorb_name(&mut lanes, b"KMAC", customisation);
+    let name_blocks = absorb_name(&mut lanes, &KMAC, customisation);
     let key_blocks = absorb_key(&mut lanes, key);
     Started {
         number: 0,
