@@ -5,3 +5,4 @@ pub mod Session
 pub mod Generator
 pub mod Plan
 pub mod ThereAndBack
+pub mod SessionCalls

@@ -77,21 +77,21 @@ fn phase_position(phase: Phase) -> usize
 fn exported(step: Step) -> HfStep
     ensures { λ r. ⌜ r ≡ exportedStep step ⌝ }
 {
-    let s = step.session;
-    let lanes = s.lanes;
-    let phase = s.phase;
+    let after = step.session;
+    let lanes = after.lanes;
+    let phase = after.phase;
     let position = phase_position(phase);
     let number = phase_number(phase);
-    let keyed = flag::number_of(s.keyed);
+    let keyed = flag::number_of(after.keyed);
     HfStep {
         session: HfSession {
             lanes,
-            taken: s.taken,
-            given: s.given,
-            limit: s.limit,
+            taken: after.taken,
+            given: after.given,
+            limit: after.limit,
             position,
             phase: number,
-            suffix: s.suffix,
+            suffix: after.suffix,
             keyed,
         },
         number: step.number,
