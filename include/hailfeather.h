@@ -1,5 +1,5 @@
 /* Hailfeather: Keccak-p[1600, 24], cSHAKE256, KMAC256 and KMACXOF256 in one call and in running sessions, sealing and opening by the KMAC AEAD, the
- * cSHAKE generator, and chute plans. Link with libhailfeather.a (x86-64), which needs nothing but memcpy and memset.
+ * cSHAKE generator, and chute plans. Link with libhailfeather.a (x86-64), which needs nothing but the C library's memory functions.
  *
  * Pointers. Every pointer to bytes or rows is followed by the number of its elements. No pointer may be null, also where there are no elements. A buffer
  * that a function writes must not overlap any other buffer of the same call; buffers that are only read may overlap. No pointer is kept after a call.
@@ -9,7 +9,7 @@
  * from two copies of one generator. Both hold secrets: overwrite them when they are no longer needed. Only pass in what a function of this header
  * handed back; of one made up by hand nothing is promised but that the call is safe, returns, and writes only the output lent to it.
  *
- * Numbers. A call answers with a number. 0 is done; any other is a refusal. Where several apply the smallest is given:
+ * Numbers. What a call hands back has a number: 0 is done, any other is a refusal. Where several apply the smallest is given:
  *    0  done
  *    1  a session that is giving was asked to take, be it an empty piece; or a draw from a generator that was never seeded
  *    2  a KMAC256 or KMACXOF256 key is longer than 4,096 bytes; or a sealing key is not 32 bytes
@@ -25,7 +25,7 @@
  *   10  the plan has no such chute
  * On a refusal every lent buffer is as it was before, a session or a generator is handed back as it was passed in, and a count, a destination, a length and
  * a number of rows are 0. So a return value may be put in place of the old one whatever its number is. The one exception is a session that could not
- * start: hf_session_cshake256 and hf_session_kmacxof256 then hand back one that is giving and has nothing to give.
+ * start: it is handed back giving, with nothing to give.
  */
 #ifndef HAILFEATHER_H
 #define HAILFEATHER_H
@@ -40,8 +40,8 @@ extern "C" {
 /* ---- Keccak-p, cSHAKE256, KMAC256, KMACXOF256 in one call (FIPS 202, SP 800-185) ---- */
 
 typedef struct {
-    size_t runs;    /* the permutations that the call takes by its definition; 0 on a refusal */
-    uint8_t number; /* 0, or the refusal */
+    size_t runs; /* the permutations that the call takes by its definition; 0 on a refusal */
+    uint8_t number;
 } hf_outcome;
 
 /* Keccak-p[1600, 24] of 25 lanes where they stand: the lane (x, y) is lanes[5 * y + x]. */
@@ -72,22 +72,20 @@ typedef struct {
     size_t limit;       /* the most bytes that it gives: 16,777,216, or 0 for a session that could not start */
     size_t position;    /* the place of the next byte in the block of 136 bytes */
     uint8_t phase;      /* 0: taking; 1 (or any other number): giving */
-    uint8_t suffix;     /* the byte after the message: 1F for SHAKE256, else 04 */
+    uint8_t suffix;     /* the byte after the message: 1F for SHAKE256, else 04; 0 for a session that could not start */
     uint8_t keyed;      /* 1 for KMACXOF256 (any number but 0 is read as 1), 0 for cSHAKE256 */
 } hf_session;
 
 typedef struct {
     hf_session session; /* the session after the call: put it in place of the one passed in */
-    uint8_t number;     /* 0, or the refusal */
+    uint8_t number;
 } hf_step;
 
-/* Start a session of cSHAKE256, or of KMACXOF256. The first refuses with 3, 4, the second with 2, 3. */
+/* Start a session of cSHAKE256 (refuses with 3, 4) or of KMACXOF256 (refuses with 2, 3). */
 hf_step hf_session_cshake256(const uint8_t *name, size_t name_length, const uint8_t *customisation, size_t customisation_length);
 hf_step hf_session_kmacxof256(const uint8_t *key, size_t key_length, const uint8_t *customisation, size_t customisation_length);
-
 /* Takes a piece of the message. An empty piece changes nothing. Refuses with 1, 5. */
 hf_step hf_session_take(hf_session session, const uint8_t *piece, size_t piece_length);
-
 /* Fills out with the next bytes of output. Refuses with 6. */
 hf_step hf_session_give(hf_session session, uint8_t *out, size_t out_length);
 
@@ -105,8 +103,7 @@ hf_outcome hf_seal(const uint8_t *key, size_t key_length, const uint8_t *iv, siz
 hf_outcome hf_open(const uint8_t *key, size_t key_length, const uint8_t *iv, size_t iv_length, const uint8_t *ciphertext, size_t ciphertext_length,
                    const uint8_t *label, size_t label_length, uint8_t *out, size_t out_length, const uint8_t *tag, size_t tag_length);
 
-/* ---- The cSHAKE generator ----
- * It gathers no randomness: all of it comes from the seeds. */
+/* ---- The cSHAKE generator ---- It gathers no randomness: all of it comes from the seeds. */
 
 typedef struct {
     uint8_t key[64]; /* secret; all zero before the first seeding */
@@ -116,7 +113,7 @@ typedef struct {
 typedef struct {
     hf_generator generator; /* the generator after the call: put it in place of the one passed in */
     size_t runs;            /* the permutations that the call takes by its definition; 0 on a refusal */
-    uint8_t number;         /* 0, or the refusal */
+    uint8_t number;
 } hf_draw;
 
 /* A generator that was never seeded. */
@@ -137,36 +134,36 @@ hf_draw hf_generator_draw(hf_generator generator, const uint8_t *additional, siz
  * whichever chute is asked for; the one exception is hf_plan_step, which relies on hf_plan_start. */
 
 typedef struct {
-    uint32_t rows;  /* the number of rows; 0 on a refusal */
-    uint8_t number; /* 0, or the refusal */
+    uint32_t rows; /* 0 on a refusal */
+    uint8_t number;
 } hf_rows;
 
 typedef struct {
     uint32_t destination; /* 0 on a refusal: look at number, since 0 is a destination too */
-    uint8_t number;       /* 0, or the refusal */
+    uint8_t number;
 } hf_destination;
 
 typedef struct {
     size_t start;   /* the row's bytes are plan[start] to plan[start + length - 1] of the plan that source names */
     size_t length;  /* 1 to 3; 0 on a refusal, and then start is 0 too */
     uint8_t source; /* 1: the site plan; 2: the house plan; 0: neither, on a refusal */
-    uint8_t number; /* 0, or the refusal */
+    uint8_t number;
 } hf_row;
 
 typedef struct {
-    size_t length;  /* bytes; 0 on a refusal */
-    uint8_t number; /* 0, or the refusal */
+    size_t length; /* in bytes; 0 on a refusal */
+    uint8_t number;
 } hf_length;
 
 typedef struct {
-    size_t at;      /* the place of the first row */
-    uint8_t number; /* 0, or the plan's refusal */
+    size_t at;      /* the place of the first row in the plan; of no use on a refusal */
+    uint8_t number; /* 0, or the plan's refusal: lend both to hf_plan_step */
 } hf_cursor;
 
 typedef struct {
     size_t next;          /* the place of the next row; on a refusal the place that was asked at */
     uint32_t destination; /* 0 on a refusal */
-    uint8_t number;       /* 0, or the refusal */
+    uint8_t number;
 } hf_walk;
 
 /* How many rows a plan has. Refuses with 5, 9. */
@@ -188,9 +185,8 @@ uint8_t hf_plan_write(const uint32_t *rows, size_t rows_length, uint8_t *out, si
 
 /* A walk over the rows one after another. hf_plan_start reads the plan whole; its answer is kept beside the plan, which must not change meanwhile:
        hf_cursor walk = hf_plan_start(plan, plan_length);
-       for (;;) {
-           hf_walk row = hf_plan_step(plan, plan_length, walk.at, walk.number);
-           if (row.number != 0) break;
+       hf_walk row;
+       while ((row = hf_plan_step(plan, plan_length, walk.at, walk.number)).number == 0) {
            walk.at = row.next;
            .. row.destination ..
        }

@@ -52,9 +52,11 @@ static void refusals(void) {
                 {32, 0, 4, 5, 15, 6},           {32, 0, 4, 4, 15, 7}, {32, 0, 4, 4, 65, 7}};
     for (size_t i = 0; i < sizeof rows / sizeof *rows; i++) {
         lent out, tag;
-        hf_outcome o = hf_seal(big, rows[i].key, big, rows[i].iv, big, rows[i].text, NONE, lend(&out, rows[i].out), rows[i].out, lend(&tag, rows[i].tag), rows[i].tag);
+        size_t o_length = rows[i].out, t_length = rows[i].tag;
+        uint8_t *to = lend(&out, o_length);
+        hf_outcome o = hf_seal(big, rows[i].key, big, rows[i].iv, big, rows[i].text, NONE, to, o_length, lend(&tag, t_length), t_length);
         EXPECT(o.number == rows[i].number && o.runs == 0 && untouched(&out) && untouched(&tag));
-        o = hf_open(big, rows[i].key, big, rows[i].iv, big, rows[i].text, NONE, lend(&out, rows[i].out), rows[i].out, big, rows[i].tag);
+        o = hf_open(big, rows[i].key, big, rows[i].iv, big, rows[i].text, NONE, to, o_length, big, t_length);
         EXPECT(o.number == rows[i].number && o.runs == 0 && untouched(&out));
     }
 }
