@@ -1,18 +1,31 @@
-/* Hailfeather: Keccak-p[1600, 24], cSHAKE256, KMAC256 and KMACXOF256, each proved against FIPS 202 and SP 800-185, and sealing and opening by the
- * KMAC AEAD.
+/* Hailfeather: Keccak-p[1600, 24], cSHAKE256, KMAC256 and KMACXOF256 in one call and in running sessions, sealing and opening by the KMAC AEAD, the
+ * cSHAKE generator, and chute plans. Link with libhailfeather.a (x86-64), which needs nothing but the C library's memory functions.
  *
- * Every pointer is followed by the number of its elements. No pointer may be null, also where there are no elements. Buffers that a function reads and the
- * one that it writes must not overlap. Nothing is kept after a call, and no memory is asked for.
+ * Pointers. Every pointer to bytes or rows is followed by the number of its elements. No pointer may be null, also where there are no elements. A buffer
+ * that a function writes must not overlap any other buffer of the same call; buffers that are only read may overlap. No pointer is kept after a call.
  *
- * A call answers with a number. 0 is done; any other is a refusal: then the output is as it was before and the count of runs is 0. The smallest number
- * that applies is given:
- *   2  the key of a hash function is longer than 4,096 bytes, or a sealing key is not 32 bytes
- *   3  the name, the customisation or the IV is longer than 4,096 bytes
- *   4  the name is exactly the four bytes KMAC, which belongs to the standard's own function
- *   5  the message, or text and label together, are longer than 16,777,216 bytes
- *   6  the output is longer than 16,777,216 bytes, or KMAC256 is asked for no bytes; the output of sealing or opening is not as long as the text
- *   7  the tag is shorter than 16 bytes or longer than 64
- *   8  the tag does not match
+ * State. Nothing is kept between calls and no memory is asked for, so any thread may call at any time. A session and a generator are plain values: pass
+ * one in, and put the one that is handed back in its place. A copy is a second session or generator that goes on from the same point, so never draw
+ * from two copies of one generator. Both hold secrets: overwrite them when they are no longer needed. Only pass in what a function of this header
+ * handed back; of one made up by hand nothing is promised but that the call is safe, returns, and writes only the output lent to it.
+ *
+ * Numbers. What a call hands back has a number: 0 is done, any other is a refusal. Where several apply the smallest is given:
+ *    0  done
+ *    1  a session that is giving was asked to take, be it an empty piece; or a draw from a generator that was never seeded
+ *    2  a KMAC256 or KMACXOF256 key is longer than 4,096 bytes; or a sealing key is not 32 bytes
+ *    3  a name, a customisation or an IV is longer than 4,096 bytes; or an additional input or a personalisation is longer than 84
+ *    4  cSHAKE256 was asked for with a name of exactly the four bytes KMAC, which belongs to the standard's own function
+ *    5  a message (in a session the total so far, with this piece), or text and label together, is longer than 16,777,216 bytes; or a seed or a plan to
+ *       be read is longer than 65,536
+ *    6  an output (in a session the total so far, with this one) is longer than 16,777,216 bytes; or KMAC256 was asked for no bytes; or the output of
+ *       sealing or opening is not as long as the text; or a session that could not start was asked for one byte or more
+ *    7  a tag is shorter than 16 bytes or longer than 64
+ *    8  the tag does not match
+ *    9  the plan is malformed; or rows to be written break the plan's rules or do not fill the lent buffer exactly
+ *   10  the plan has no such chute
+ * On a refusal every lent buffer is as it was before, a session or a generator is handed back as it was passed in, and a count, a destination, a length and
+ * a number of rows are 0. So a return value may be put in place of the old one whatever its number is. The one exception is a session that could not
+ * start: it is handed back giving, with nothing to give.
  */
 #ifndef HAILFEATHER_H
 #define HAILFEATHER_H
@@ -24,28 +37,64 @@
 extern "C" {
 #endif
 
+/* ---- Keccak-p, cSHAKE256, KMAC256, KMACXOF256 in one call (FIPS 202, SP 800-185) ---- */
+
 typedef struct {
-    size_t runs;    /* permutations that the call took, by the definition; 0 on a refusal */
-    uint8_t number; /* 0, or the refusal */
+    size_t runs; /* the permutations that the call takes by its definition; 0 on a refusal */
+    uint8_t number;
 } hf_outcome;
 
-/* Keccak-p[1600, 24] (FIPS 202) of 25 lanes where they stand: the lane (x, y) is lanes[5 * y + x]. */
+/* Keccak-p[1600, 24] of 25 lanes where they stand: the lane (x, y) is lanes[5 * y + x]. */
 void hf_keccak_p(uint64_t lanes[25]);
 
-/* cSHAKE256 (SP 800-185, 3): fills out with out_length bytes. With no name and no customisation it is SHAKE256. Refuses with 3, 4, 5, 6. */
+/* cSHAKE256 (SP 800-185, 3): fills out. With no name and no customisation it is SHAKE256. A shorter output is the beginning of a longer one, and an
+   output of no bytes is accepted. Refuses with 3, 4, 5, 6. */
 hf_outcome hf_cshake256(const uint8_t *name, size_t name_length, const uint8_t *customisation, size_t customisation_length,
                         const uint8_t *message, size_t message_length, uint8_t *out, size_t out_length);
 
-/* KMAC256 (SP 800-185, 4): the output's length is part of what is authenticated, and may not be 0. Refuses with 2, 3, 5, 6. */
+/* KMAC256 (SP 800-185, 4): fills out. The output's length is part of what is authenticated, and may not be 0. Refuses with 2, 3, 5, 6. */
 hf_outcome hf_kmac256(const uint8_t *key, size_t key_length, const uint8_t *customisation, size_t customisation_length,
                       const uint8_t *message, size_t message_length, uint8_t *out, size_t out_length);
 
-/* KMACXOF256 (SP 800-185, 4.3.1): a shorter output is the beginning of a longer one. Refuses with 2, 3, 5, 6. */
+/* KMACXOF256 (SP 800-185, 4.3.1): fills out. A shorter output is the beginning of a longer one, and an output of no bytes is accepted. Refuses with
+   2, 3, 5, 6. */
 hf_outcome hf_kmacxof256(const uint8_t *key, size_t key_length, const uint8_t *customisation, size_t customisation_length,
                          const uint8_t *message, size_t message_length, uint8_t *out, size_t out_length);
 
+/* ---- Running sessions over cSHAKE256 and KMACXOF256 ----
+ * A session takes the message in pieces and then gives the output in portions. The bytes given, joined, are the first bytes of what the one call gives
+ * over the pieces, joined; refused calls count for nothing. The first accepted ask for output, be it for no bytes, ends the message for good. */
+
+typedef struct {
+    uint64_t lanes[25]; /* the sponge's lanes */
+    size_t taken;       /* bytes of the message so far */
+    size_t given;       /* bytes of output so far */
+    size_t limit;       /* the most bytes that it gives: 16,777,216, or 0 for a session that could not start */
+    size_t position;    /* the place of the next byte in the block of 136 bytes */
+    uint8_t phase;      /* 0: taking; 1 (or any other number): giving */
+    uint8_t suffix;     /* the byte after the message: 1F for SHAKE256, else 04; 0 for a session that could not start */
+    uint8_t keyed;      /* 1 for KMACXOF256 (any number but 0 is read as 1), 0 for cSHAKE256 */
+} hf_session;
+
+typedef struct {
+    hf_session session; /* the session after the call: put it in place of the one passed in */
+    uint8_t number;
+} hf_step;
+
+/* Start a session of cSHAKE256 (refuses with 3, 4) or of KMACXOF256 (refuses with 2, 3). */
+hf_step hf_session_cshake256(const uint8_t *name, size_t name_length, const uint8_t *customisation, size_t customisation_length);
+hf_step hf_session_kmacxof256(const uint8_t *key, size_t key_length, const uint8_t *customisation, size_t customisation_length);
+/* Takes a piece of the message. An empty piece changes nothing. Refuses with 1, 5. */
+hf_step hf_session_take(hf_session session, const uint8_t *piece, size_t piece_length);
+/* Fills out with the next bytes of output. Refuses with 6. */
+hf_step hf_session_give(hf_session session, uint8_t *out, size_t out_length);
+
+/* ---- Sealing and opening ----
+ * The count of runs is the sum over the two calls of KMACXOF256 that each is made of. The label is authenticated with the text and not encrypted. The tag
+ * covers ciphertext and label joined, not the place where one ends and the other begins. */
+
 /* Seals text under a key of 32 bytes and an IV (never twice with one key and one IV): the ciphertext into out, as long as the text, and a tag of 16 to 64
-   bytes over ciphertext and label into tag. Refuses with 2, 3, 5, 6, 7. */
+   bytes over ciphertext and label into tag. A shorter tag is the beginning of a longer one. Refuses with 2, 3, 5, 6, 7. */
 hf_outcome hf_seal(const uint8_t *key, size_t key_length, const uint8_t *iv, size_t iv_length, const uint8_t *text, size_t text_length,
                    const uint8_t *label, size_t label_length, uint8_t *out, size_t out_length, uint8_t *tag, size_t tag_length);
 
@@ -53,6 +102,97 @@ hf_outcome hf_seal(const uint8_t *key, size_t key_length, const uint8_t *iv, siz
    Refuses with 2, 3, 5, 6, 7, 8. */
 hf_outcome hf_open(const uint8_t *key, size_t key_length, const uint8_t *iv, size_t iv_length, const uint8_t *ciphertext, size_t ciphertext_length,
                    const uint8_t *label, size_t label_length, uint8_t *out, size_t out_length, const uint8_t *tag, size_t tag_length);
+
+/* ---- The cSHAKE generator ---- It gathers no randomness: all of it comes from the seeds. */
+
+typedef struct {
+    uint8_t key[64]; /* secret; all zero before the first seeding */
+    uint8_t seeded;  /* 0: never seeded; 1 (or any other number): seeded */
+} hf_generator;
+
+typedef struct {
+    hf_generator generator; /* the generator after the call: put it in place of the one passed in */
+    size_t runs;            /* the permutations that the call takes by its definition; 0 on a refusal */
+    uint8_t number;
+} hf_draw;
+
+/* A generator that was never seeded. */
+hf_generator hf_generator_fresh(void);
+
+/* Makes a new key of the old one, the seed and the personalisation (at most 84 bytes). It may be done again at any time; an empty seed is accepted and
+   counts as a seeding. Refuses with 3, 5. */
+hf_draw hf_generator_seed(hf_generator generator, const uint8_t *seed, size_t seed_length, const uint8_t *personalisation, size_t personalisation_length);
+
+/* Fills out, with an additional input of at most 84 bytes, in pieces of 208 bytes, and makes a new key with each; 3 runs a piece. Two draws of 10 bytes
+   are not one of 20. A draw of no bytes is accepted and leaves the key. Refuses with 1, 3, 6. */
+hf_draw hf_generator_draw(hf_generator generator, const uint8_t *additional, size_t additional_length, uint8_t *out, size_t out_length);
+
+/* ---- Chute plans ----
+ * A plan is the number of its rows (at most 4,096), then the destination of each, then nothing more. A number stands in one to three groups of seven bits,
+ * lowest group first, with the top bit of a byte set when another follows: 0 to 2,097,151. Chutes count from 1; destination 0 sends the parcel round again.
+ * The plan 03 07 AC 02 00 has three rows, with destinations 7, 300 and 0. Every function reads its plan whole, so a plan that is bad anywhere is refused
+ * whichever chute is asked for; the one exception is hf_plan_step, which relies on hf_plan_start. */
+
+typedef struct {
+    uint32_t rows; /* 0 on a refusal */
+    uint8_t number;
+} hf_rows;
+
+typedef struct {
+    uint32_t destination; /* 0 on a refusal: look at number, since 0 is a destination too */
+    uint8_t number;
+} hf_destination;
+
+typedef struct {
+    size_t start;   /* the row's bytes are plan[start] to plan[start + length - 1] of the plan that source names */
+    size_t length;  /* 1 to 3; 0 on a refusal, and then start is 0 too */
+    uint8_t source; /* 1: the site plan; 2: the house plan; 0: neither, on a refusal */
+    uint8_t number;
+} hf_row;
+
+typedef struct {
+    size_t length; /* in bytes; 0 on a refusal */
+    uint8_t number;
+} hf_length;
+
+typedef struct {
+    size_t at;      /* the place of the first row in the plan; of no use on a refusal */
+    uint8_t number; /* 0, or the plan's refusal: lend both to hf_plan_step */
+} hf_cursor;
+
+typedef struct {
+    size_t next;          /* the place of the next row; on a refusal the place that was asked at */
+    uint32_t destination; /* 0 on a refusal */
+    uint8_t number;
+} hf_walk;
+
+/* How many rows a plan has. Refuses with 5, 9. */
+hf_rows hf_plan_read(const uint8_t *plan, size_t plan_length);
+
+/* The destination of one chute. Refuses with 5, 9, and with 10 where chute is 0 or greater than this plan's number of rows. */
+hf_destination hf_plan_destination(const uint8_t *plan, size_t plan_length, uint32_t chute);
+
+/* Where the bytes of a chute's row are: in the site plan if it has that chute, else in the house plan. Refuses with 5, 9 where either plan is bad, and with
+   10 where neither has the chute. */
+hf_row hf_plan_row(const uint8_t *site, size_t site_length, const uint8_t *house, size_t house_length, uint32_t chute);
+
+/* How many bytes the plan with these destinations takes. Refuses with 9 where there are more than 4,096 rows or one is greater than 2,097,151. */
+hf_length hf_plan_length(const uint32_t *rows, size_t rows_length);
+
+/* Writes the plan with these destinations, each number in the fewest groups, into out, which must have exactly the length that hf_plan_length answers.
+   Answers 0, or 9 and nothing is written. */
+uint8_t hf_plan_write(const uint32_t *rows, size_t rows_length, uint8_t *out, size_t out_length);
+
+/* A walk over the rows one after another. hf_plan_start reads the plan whole; its answer is kept beside the plan, which must not change meanwhile:
+       hf_cursor walk = hf_plan_start(plan, plan_length);
+       hf_walk row;
+       while ((row = hf_plan_step(plan, plan_length, walk.at, walk.number)).number == 0) {
+           walk.at = row.next;
+           .. row.destination ..
+       }
+   hf_plan_start refuses with 5, 9. hf_plan_step answers that number at every ask of a refused plan, and 10 past the last row. */
+hf_cursor hf_plan_start(const uint8_t *plan, size_t plan_length);
+hf_walk hf_plan_step(const uint8_t *plan, size_t plan_length, size_t at, uint8_t number);
 
 #ifdef __cplusplus
 }

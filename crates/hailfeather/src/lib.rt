@@ -1,4 +1,9 @@
 // The library as C links it: each function is one entry of the crates below, under a name `hf_..`. A `&[u8]` passes as a pointer and a length.
+mod flag; // flag.rt: a bool as a number
+mod sessions; // sessions.rt: running sessions
+mod generators; // generators.rt: the cSHAKE generator
+mod plans; // plans.rt: the chute plan
+
 ghost use mathlib.Core.Path.{_≡_};
 ghost use lib.ListN.{length};
 ghost use Rattle.keccak.specs.Fips202.{keccakP};

@@ -1,0 +1,10 @@
+-- Field by field; the flag as its own conversion has it.
+use borrow.Author.Needs.{needs}
+use Rattle.hailfeather.proofs.generators.exported.Statement.{statement}
+use Rattle.hailfeather.proofs.generators.exported.Tie as tie
+
+returns : tie.Need-returns
+returns c = rw (c .number-of .ensures)
+
+pub exported-spec : {M : Type 1} → statement M
+exported-spec = tie.close (tie.spec (λ c κs. search needs) returns)

@@ -1,0 +1,10 @@
+-- Field by field; the state as its own conversion has it.
+use borrow.Author.Needs.{needs}
+use Rattle.hailfeather.proofs.generators.exported_answer.Statement.{statement}
+use Rattle.hailfeather.proofs.generators.exported_answer.Tie as tie
+
+returns : tie.Need-returns
+returns c = rw (c .exported .ensures)
+
+pub exported-answer-spec : {M : Type 1} → statement M
+exported-answer-spec = tie.close (tie.spec (λ c κs. search needs) returns)

@@ -1,0 +1,10 @@
+-- Field by field; the flag as its own conversion has it.
+use borrow.Author.Needs.{needs}
+use Rattle.hailfeather.proofs.generators.imported.Statement.{statement}
+use Rattle.hailfeather.proofs.generators.imported.Tie as tie
+
+returns : tie.Need-returns
+returns c = rw (c .is-set .ensures)
+
+pub imported-spec : {M : Type 1} → statement M
+imported-spec = tie.close (tie.spec (λ c κs. search needs) returns)

@@ -1,0 +1,12 @@
+-- The entry's own answer, exported.
+use mathlib.Core.Path.{ap, _∙_}
+use borrow.Author.Needs.{needs}
+use Rattle.hailfeather.specs.Session.{exportedStep}
+use Rattle.hailfeather.proofs.sessions.hf_session_kmacxof256.Statement.{statement}
+use Rattle.hailfeather.proofs.sessions.hf_session_kmacxof256.Tie as tie
+
+returns : tie.Need-returns
+returns c = c .exported .ensures ∙ ap exportedStep (c .before .start-kmacxof256 .ensures)
+
+pub hf-session-kmacxof256-spec : {M : Type 1} → statement M
+hf-session-kmacxof256-spec = tie.close (tie.spec (λ c κs. search needs) (λ c κs. search needs) returns)
