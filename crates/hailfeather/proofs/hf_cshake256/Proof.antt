@@ -1,4 +1,5 @@
 -- The entry's own answer, handed on.
+-- `exported` renames fields and no more, so the entry's equation carries over.
 use mathlib.Core.Path.{ap}
 use borrow.Author.Needs.{needs}
 use Rattle.hailfeather.specs.Exported.{exported}

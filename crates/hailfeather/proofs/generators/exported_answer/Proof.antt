@@ -1,4 +1,5 @@
 -- Field by field; the state as its own conversion has it.
+-- The count and the number are handed on as they stand.
 use borrow.Author.Needs.{needs}
 use Rattle.hailfeather.proofs.generators.exported_answer.Statement.{statement}
 use Rattle.hailfeather.proofs.generators.exported_answer.Tie as tie

@@ -1,4 +1,5 @@
 -- The entry's own answer to the imported state, exported.
+-- The entry's equation holds of every state, and so of the imported one.
 use mathlib.Core.Path.{ap, _∙_}
 use denote.Ref.{now}
 use borrow.Author.Needs.{needs}

@@ -1,4 +1,5 @@
 -- Field by field; the flag as its own conversion has it.
+-- The key is handed on as it stands.
 use borrow.Author.Needs.{needs}
 use Rattle.hailfeather.proofs.generators.imported.Statement.{statement}
 use Rattle.hailfeather.proofs.generators.imported.Tie as tie

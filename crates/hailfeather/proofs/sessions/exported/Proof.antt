@@ -1,4 +1,5 @@
 -- Field by field; the phase and the flag as their own conversions have them.
+-- The other fields are handed on as they stand.
 use borrow.Author.Needs.{needs}
 use Rattle.hailfeather.proofs.sessions.exported.Statement.{statement}
 use Rattle.hailfeather.proofs.sessions.exported.Tie as tie

@@ -1,4 +1,5 @@
 -- The entry's own answer to the imported session, exported.
+-- The entry's equation holds of every session, and so of the imported one.
 use mathlib.Core.Path.{ap, _∙_}
 use borrow.Author.Needs.{needs}
 use denote.Ref.{now}

@@ -1,4 +1,5 @@
 -- The number is 0 or it is not: `importedPhase` asks the same.
+-- Each arm of the code is the definition's arm for that case.
 use borrow.Author.Tests.{eq-eqb, ne-eqb}
 use Rattle.hailfeather.proofs.sessions.imported_phase.Statement.{statement}
 use Rattle.hailfeather.proofs.sessions.imported_phase.Tie as tie
