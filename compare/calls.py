@@ -36,7 +36,8 @@ LIMITS = (limit_calls.one_shot, limit_calls.session, limit_calls.seal, limit_cal
 
 
 def lines(rng, count, small):
-    """The lines, those at the limits of 16 MiB first."""
+    """The lines, those at the limits first."""
+    yield from plan_calls.limits(rng)
     if not small:
         for calls in LIMITS:
             yield from calls(rng)

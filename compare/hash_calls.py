@@ -6,7 +6,7 @@ from callfile import lanes_of, written
 from choose import MOST, block_length, message_length, output_length, some_bytes, string_length
 from sp800_185 import cshake256, kmac256, kmacxof256
 
-NAMES = [b"KMAC", b"kmac", b"KMAC ", b"KMA", b"TupleHash", b"cSHAKE-DRNG seed"]
+NAMES = [b"KMAC", b"KMAC", b"kmac", b"KMAC ", b"KMA", b"TupleHash", b"cSHAKE-DRNG seed"]
 
 
 def permutation(rng):
@@ -22,7 +22,7 @@ def some_string(rng):
 
 def some_name(rng):
     """A name for cSHAKE256, now and then the reserved one or a neighbour of it."""
-    return rng.choice(NAMES) if rng.random() < 0.08 else some_string(rng)
+    return rng.choice(NAMES) if rng.random() < 0.15 else some_string(rng)
 
 
 def cshake(rng):

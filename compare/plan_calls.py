@@ -69,22 +69,57 @@ def some_chute(rng, asked):
     return rng.choice(FAR) if rng.random() < 0.1 else max(0, rng.choice([1, 2, last - 1, last, last + 1, rng.randint(0, last + 2)]))
 
 
-def read(rng):
-    lent = some_plan(rng)
+def read_of(lent):
     yield written("plan_read", [lent], plan.read(lent))
+
+
+def look_of(lent, chute):
+    yield written("plan_destination", [lent, chute], plan.destination(lent, chute))
+
+
+def row_of(site, house, chute):
+    number, source, start, length = plan.row(site, house, chute)
+    yield written("plan_row", [site, house, chute], [number, SOURCES.index(source), start, length])
+
+
+def walk_of(lent):
+    """A walk over some rows, and past the last where there are few; of a refused plan too."""
+    state = plan.walker(lent)
+    yield written("plan_start", [lent], [state.number])
+    for _ in range(min(12, plan.read(lent)[1]) + 2):
+        number, found, state = plan.next_row(state)
+        yield written("plan_step", [], [number, found])
+
+
+def read(rng):
+    return read_of(some_plan(rng))
 
 
 def look(rng):
     lent = some_plan(rng)
-    chute = some_chute(rng, lent)
-    yield written("plan_destination", [lent, chute], plan.destination(lent, chute))
+    return look_of(lent, some_chute(rng, lent))
 
 
 def row(rng):
     site, house = some_plan(rng), some_plan(rng)
-    chute = some_chute(rng, rng.choice([site, house]))
-    number, source, start, length = plan.row(site, house, chute)
-    yield written("plan_row", [site, house, chute], [number, SOURCES.index(source), start, length])
+    return row_of(site, house, some_chute(rng, rng.choice([site, house])))
+
+
+def walk(rng):
+    return walk_of(some_plan(rng))
+
+
+def limits(rng):
+    """Every entry that reads a plan, on both sides of the limits of its bytes and of its rows."""
+    short = plan_of([7, 300, 0], plan.written_number)
+    widest = plan_of([LARGEST] * ROWS, in_three_groups)
+    for lent in (widest, plan.written_number(ROWS + 1) + bytes(ROWS + 1), bytes(SEED), bytes(SEED + 1)):
+        yield from read_of(lent)
+        yield from walk_of(lent)
+        for chute in (1, ROWS, ROWS + 1):
+            yield from look_of(lent, chute)
+            yield from row_of(lent, short, chute)
+            yield from row_of(short, lent, chute)
 
 
 def write(rng):
@@ -97,13 +132,3 @@ def write(rng):
     yield written("plan_length", [rows], [number, 0 if number else length])
     lent_length = length if rng.random() < 0.8 else max(0, length + rng.choice([-1, 1, -length]))
     yield written("plan_write", [rows, lent_length], plan.write(rows, lent_length))
-
-
-def walk(rng):
-    """A walk over the rows and past the last; of a refused plan too."""
-    lent = some_plan(rng)
-    state = plan.walker(lent)
-    yield written("plan_start", [lent], [state.number])
-    for _ in range(min(12, plan.read(lent)[1]) + 2):
-        number, found, state = plan.next_row(state)
-        yield written("plan_step", [], [number, found])
