@@ -1,19 +1,20 @@
 //! Hailfeather for Rust: cSHAKE256, KMAC256 and KMACXOF256 in one call and in sessions, sealing and opening, a generator, and chute plans.
 //!
-//! The work is done by the static library `libhailfeather.a`, in which every function is proved against its contract: for every input, of every content and
-//! length, the answer, the count and the final contents of all lent memory are fixed. This package is the safe way to it from Rust. It is not itself proved; it
-//! lends your slices to the library, and makes a [`Refusal`] of each number but 0. It asks for no memory of its own, but for [`plan::to_vec`].
+//! The work is done by the static library `libhailfeather.a`, in which every function is proved against its contract: for every input, of every
+//! content and length, the answer, the count and the final contents of all lent memory are fixed. This package is the safe way to it from Rust. It
+//! is not itself proved; it lends your slices to the library, and makes a [`Refusal`] of each number but 0. It asks for no memory of its own, but
+//! for [`plan::to_vec`].
 //!
 //! # What to choose
 //!
 //! | To | choose | because |
 //! |---|---|---|
-//! | keep a text secret and notice every change of it | [`seal`] and [`open`] | they do both under one key; opening writes nothing unless the tag matches |
-//! | show that a message comes from a holder of the key | [`kmac256`] | the code's length is authenticated too, so nobody can shorten a code |
+//! | keep a text secret and notice changes | [`seal`] and [`open`] | opening writes nothing unless the tag matches |
+//! | show that a message comes from a holder of the key | [`kmac256`] | the code's length is authenticated too: a shortened code does not pass |
 //! | make keys or a stream of one key | [`kmacxof256`] | it gives as many bytes as are asked for; the customisation tells the uses apart |
-//! | name a file or a plan by a digest, without any key | [`cshake256`] | with a customisation, digests made for one purpose do not serve for another |
-//! | do one of the last two on what does not fit memory | [`Session`] | it takes the message in pieces, and works with [`std::io::copy`] |
-//! | have many secret bytes of a few | [`Generator`] | each piece has a new key, so what was drawn cannot be worked out from what is left |
+//! | name data by a digest, without a key | [`cshake256`] | with a customisation, a digest made for one purpose serves no other |
+//! | do either of the two above in pieces | [`Session`] | it is a writer and a reader, for [`std::io::copy`] |
+//! | make many secret bytes of a seed | [`Generator`] | each piece of 208 bytes makes a new key, and the old one is gone |
 //! | read, write or ask chute plans | [`plan`] | a plan that is bad anywhere is refused whole |
 //!
 //! [`keccak_p`] is the permutation below all of them; hardly anyone needs it alone.
@@ -62,19 +63,20 @@
 //!
 //! # Refusals
 //!
-//! A call is done, or it is refused and has changed nothing: not the lent buffers, not the session, not the generator. A [`Refusal`] has the number that the
-//! library gave and says what is wrong in words; as an [`std::io::Error`] it goes through `?` in programs that read and write files. No input makes a call panic.
-//! The [`limits`] say how long what may be. Most calls answer how many permutation [`Runs`] they take, which tells what they cost.
+//! A call is done, or it is refused and has changed nothing: not the lent buffers, not the session, not the generator. A [`Refusal`] has the number
+//! that the library gave and says what is wrong in words; as an [`std::io::Error`] it goes through `?` in programs that read and write files. No
+//! input makes a call panic. The [`limits`] say how long what may be. Most calls answer how many permutation [`Runs`] they take, which tells what
+//! they cost.
 //!
 //! # What is not promised
 //!
-//! How long a call takes may depend on secrets: timing is not hidden. No randomness is gathered. Sessions and generators are overwritten when they are dropped,
-//! but not the copies that moves and calls leave on the stack.
+//! How long a call takes may depend on secrets: timing is not hidden. No randomness is gathered. Sessions and generators are overwritten when they
+//! are dropped, but not the copies that moves and calls leave on the stack.
 //!
 //! # Building
 //!
-//! In its repository the package finds the library, or builds it with the Rattle toolchain. Elsewhere, set the environment variable `HAILFEATHER_ARCHIVE` to the
-//! path of a `libhailfeather.a` that was built before. The library is for x86-64.
+//! In its repository the package finds the library, or builds it with the Rattle toolchain. Elsewhere, set the environment variable
+//! `HAILFEATHER_ARCHIVE` to the path of a `libhailfeather.a` that was built before. The library is for x86-64.
 #![deny(missing_docs)]
 
 mod ffi;

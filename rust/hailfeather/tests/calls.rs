@@ -1,10 +1,11 @@
-//! Calls the package for every line of the file of calls that the environment variable HAILFEATHER_CALLS names, else of tests/calls.txt, and compares.
+//! Calls the package for every line of the file of calls that the environment variable HAILFEATHER_CALLS names, else of tests/calls.txt, and
+//! compares.
 
 mod callfile;
 
 use std::{env, fs};
 
-use callfile::Reader;
+use callfile::{Reader, REFUSALS};
 
 const SMALL: &str = include_str!("calls.txt");
 
@@ -27,20 +28,33 @@ fn every_answer_is_the_file_s() {
     println!(
         "{:>8} lines of {name} compared; {} of them ask a session that could not start",
         file.lines().count(),
-        reader.unreachable
+        reader.sessions.unreachable
     );
 }
 
-/// Each field of each answer of the small file, changed, makes a difference, but for those that cannot be seen: what a session that could not start answers, and
-/// a generator's key, the last field of its lines, which is seen in the last of them alone.
+/// The small file has every refusal, but for those of `plan_step`: the package's walk ends instead, or does not begin.
+#[test]
+fn every_refusal_has_its_words() {
+    let mut reader = Reader::default();
+    reader.read(SMALL).unwrap();
+    let listed = REFUSALS
+        .lines()
+        .filter(|line| !line.starts_with("plan_step "))
+        .map(String::from)
+        .collect();
+    assert_eq!(reader.refused, listed);
+}
+
+/// Each field of each answer of the small file, changed, makes a difference, but for those that cannot be seen: what a session that could not start
+/// answers, and a generator's key, the last field of its lines, which is seen in the last of them alone.
 #[test]
 fn every_wrong_answer_is_found() {
     let lines: Vec<&str> = SMALL.lines().filter(|line| !line.contains("16777")).collect();
     let (mut reader, mut tried) = (Reader::default(), 0);
     for (place, line) in lines.iter().enumerate() {
-        let unreachable = reader.unreachable;
+        let unreachable = reader.sessions.unreachable;
         reader.line(line).unwrap();
-        if reader.unreachable > unreachable {
+        if reader.sessions.unreachable > unreachable {
             continue;
         }
         let (call, answer) = line.split_once(" =").unwrap();

@@ -4,5 +4,6 @@ mod bytes;
 mod lent;
 mod one_call;
 mod reader;
+mod states;
 
-pub use reader::Reader;
+pub use reader::{Reader, REFUSALS};
