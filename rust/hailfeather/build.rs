@@ -31,7 +31,7 @@ fn named_archive(named: &Path, package: &Path) -> PathBuf {
         } else {
             format!(" (a path without / in front is taken from {})", package.display())
         };
-        fail(&format!("HAILFEATHER_ARCHIVE names {}, which is not there{place}", archive.display()));
+        fail(&format!("HAILFEATHER_ARCHIVE names {}, where there is no file{place}", archive.display()));
     }
     archive
 }
