@@ -1,8 +1,9 @@
 //! Calls the package for every line of the file of calls that the environment variable HAILFEATHER_CALLS names, else of tests/calls.txt, and
-//! compares.
+//! compares. The answers of both are the Python reference's (reference/ of the repository).
 
 mod callfile;
 
+use std::path::{Path, PathBuf};
 use std::{env, fs};
 
 use callfile::{Reader, REFUSALS};
@@ -11,13 +12,12 @@ const SMALL: &str = include_str!("calls.txt");
 
 #[test]
 fn every_answer_is_the_file_s() {
-    let (name, file) = match env::var("HAILFEATHER_CALLS") {
-        Ok(path) => (
-            path.clone(),
-            fs::read_to_string(&path).unwrap_or_else(|error| panic!("HAILFEATHER_CALLS names {path}: {error}")),
-        ),
-        Err(_) => ("tests/calls.txt".to_string(), SMALL.to_string()),
+    let named = env::var_os("HAILFEATHER_CALLS").map(PathBuf::from);
+    let file = match &named {
+        Some(path) => fs::read_to_string(path).unwrap_or_else(|error| panic!("HAILFEATHER_CALLS names {}: {error}", path.display())),
+        None => SMALL.to_string(),
     };
+    let name = named.as_deref().unwrap_or(Path::new("tests/calls.txt")).display();
     let mut reader = Reader::default();
     if let Err(wrong) = reader.read(&file) {
         panic!("{name}, {wrong}");
