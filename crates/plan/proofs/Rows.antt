@@ -85,13 +85,22 @@ keeping-row c i d r (refused n place) = refl
 
 module _ (c i at n : ℕ) (d : Row) (s : List ℕ) where
   -- a turn that reads a row
-  pub keeping-more : (r : Row) → i < n → rowAnswer at (number at (drop at s)) ≡ Found r
+  keeping-more : (r : Row) → i < n → rowAnswer at (number at (drop at s)) ≡ Found r
       → keeping c i d (rowsFrom (n - i) at (drop at s)) ≡ keeping c (i + 1) (cond (eqb (i + 1) c) r d) (rowsFrom (n - (i + 1)) (r .end) (drop (r .end) s))
   unfolding rowsFrom
   keeping-more r h e =
       let k : n - i ≡ suc (n - (i + 1)) = omega arith in
       let f = row-found at s r e in
       rw (k, f .0, ← (f .1)) (keeping-row c i d r (rowsFrom (n - (i + 1)) (r .end) (drop (r .end) s)))
+
+  -- it is the chute's, and kept, or another's
+  pub keeping-new : (r : Row) → i < n → rowAnswer at (number at (drop at s)) ≡ Found r → i + 1 ≡ c
+      → keeping c i d (rowsFrom (n - i) at (drop at s)) ≡ keeping c (i + 1) r (rowsFrom (n - (i + 1)) (r .end) (drop (r .end) s))
+  keeping-new r h e q = rw (eq-eqb _ _ q) at (keeping-more r h e)
+
+  pub keeping-old : (r : Row) → i < n → rowAnswer at (number at (drop at s)) ≡ Found r → (i + 1 ≡ c → ⊥)
+      → keeping c i d (rowsFrom (n - i) at (drop at s)) ≡ keeping c (i + 1) d (rowsFrom (n - (i + 1)) (r .end) (drop (r .end) s))
+  keeping-old r h e q = rw (ne-eqb _ _ q) at (keeping-more r h e)
 
   -- a turn that finds anything but a row
   pub keeping-bad : (place : ℕ) → i < n → rowAnswer at (number at (drop at s)) ≡ NotRow place → keeping c i d (rowsFrom (n - i) at (drop at s)) ≡ Refused 9 place

@@ -4,9 +4,7 @@ mod number; // number.rt: seven-bit numbers
 pub use number::Number;
 pub use number::number_at;
 ghost use mathlib.Core.Path.{_≡_};
-ghost use mathlib.Core.Bool.{cond};
 ghost use Prim.Native.Nat.{_≤_};
-ghost use lib.Dec.{eqb};
 ghost use lib.ListN.{drop};
 ghost use Rattle.plan.specs.Number.{number};
 ghost use Rattle.plan.specs.Plan.{rowAnswer, placeOf, rowsFrom, planOf, planAnswer};
@@ -62,13 +60,6 @@ fn malformed(place: usize) -> PlanRead
     PlanRead::Refused { refusal: 9, place }
 }
 
-// What the lookup keeps while rows are read: the new row where its number is the chute's, else the old one.
-fn kept(old: Row, new: Row, number: u32, chute: u32) -> Row
-    ensures { λ r. ⌜ r ≡ cond (eqb number chute) new old ⌝ }
-{
-    if number == chute { new } else { old }
-}
-
 // Reads the rows from a place on, `count` of them and then nothing more. The first bad row ends the reading.
 fn read_rows(plan: &[u8], first: usize, count: u32, chute: u32) -> PlanRead
     requires { ⌜ count ≤ 4096 ⌝ }
@@ -87,8 +78,10 @@ fn read_rows(plan: &[u8], first: usize, count: u32, chute: u32) -> PlanRead
             return malformed(place_of(read));
         };
         i += 1;
-        found = kept(found, row, i, chute);
         at = row.end;
+        if i == chute {
+            found = row;
+        }
     }
     if at < plan.len() {
         return malformed(at);

@@ -8,7 +8,7 @@ use denote.Ref.{now}
 use lib.ListN.{drop}
 use Rattle.plan.specs.Plan.{placeOf, rowsFrom, planAnswer}
 use Rattle.plan.specs.declared.PlanRead.the-variants.{Rows, Refused}
-use Rattle.plan.proofs.Rows.{keeping, keeping-start, keeping-more, keeping-bad, keeping-over, keeping-done}
+use Rattle.plan.proofs.Rows.{keeping, keeping-start, keeping-new, keeping-old, keeping-bad, keeping-over, keeping-done}
 use Rattle.plan.proofs.read_rows.Statement.{statement}
 use Rattle.plan.proofs.read_rows.Tie as tie
 
@@ -52,9 +52,6 @@ returns c =
 add-i : tie.Need-add-i Inv-loop μ-loop
 add-i c = search needs
 
-kept-requires : tie.Need-kept-requires Inv-loop μ-loop
-kept-requires c κs = search needs
-
 loop-less : tie.Need-loop-less Inv-loop μ-loop
 loop-less c = search needs
 
@@ -64,9 +61,21 @@ loop-again c =
     let l = c .before .before .before .before .before .before .loop in
     let got = c .before .before .read .given in (
       omega arith,
-      rw (c .kept .ensures)
-          (sym (keeping-more (a .chute) (l .i) (l .at) (a .count) (l .found) (now (a .plan)) (got .0 .0) (c .before .before .before .before .before .loop-test .taken) (sym (c .before .before .before .before .row-at .ensures) ∙ got .1))
-          ∙ l .inv .1),
+      sym (keeping-new (a .chute) (l .i) (l .at) (a .count) (l .found) (now (a .plan)) (got .0 .0) (c .before .before .before .before .before .loop-test .taken) (sym (c .before .before .before .before .row-at .ensures) ∙ got .1) (c .if1 .taken))
+          ∙ l .inv .1,
+    )
+
+loop-less-2 : tie.Need-loop-less-2 Inv-loop μ-loop
+loop-less-2 c = search needs
+
+loop-again-2 : tie.Need-loop-again-2 Inv-loop μ-loop
+loop-again-2 c =
+    let a = c .before .before .before .before .before .before .before .before .args in
+    let l = c .before .before .before .before .before .before .loop in
+    let got = c .before .before .read .given in (
+      omega arith,
+      sym (keeping-old (a .chute) (l .i) (l .at) (a .count) (l .found) (now (a .plan)) (got .0 .0) (c .before .before .before .before .before .loop-test .taken) (sym (c .before .before .before .before .row-at .ensures) ∙ got .1) (c .if1 .left))
+          ∙ l .inv .1,
     )
 
 malformed-requires-2 : tie.Need-malformed-requires-2 Inv-loop μ-loop
@@ -76,7 +85,7 @@ returns-2 : tie.Need-returns-2 Inv-loop μ-loop
 returns-2 c =
     let a = c .before .before .before .before .before .args in
     let l = c .before .before .before .loop in
-    c .malformed2 .ensures ∙ sym (keeping-over (a .chute) (l .i) (l .at) (a .count) (l .found) (now (a .plan)) (c .before .before .loop-test .left) (c .before .if1 .taken)) ∙ l .inv .1
+    c .malformed2 .ensures ∙ sym (keeping-over (a .chute) (l .i) (l .at) (a .count) (l .found) (now (a .plan)) (c .before .before .loop-test .left) (c .before .if2 .taken)) ∙ l .inv .1
 
 returns-3 : tie.Need-returns-3 Inv-loop μ-loop
 returns-3 c =
@@ -84,7 +93,7 @@ returns-3 c =
     let l = c .before .before .loop in
     let e : a .count ≡ l .i = omega arith in
     ap (λ (n : ℕ). Rows n (l .found)) e
-    ∙ sym (keeping-done (a .chute) (l .i) (l .at) (a .count) (l .found) (now (a .plan)) (c .before .loop-test .left) (c .if1 .left)) ∙ l .inv .1
+    ∙ sym (keeping-done (a .chute) (l .i) (l .at) (a .count) (l .found) (now (a .plan)) (c .before .loop-test .left) (c .if2 .left)) ∙ l .inv .1
 
 pub read-rows-spec : {M : Type 1} → statement M
 read-rows-spec =
@@ -100,9 +109,10 @@ read-rows-spec =
     malformed-requires
     returns
     add-i
-    kept-requires
     loop-less
     loop-again
+    loop-less-2
+    loop-again-2
     malformed-requires-2
     returns-2
     returns-3)
