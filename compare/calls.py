@@ -1,0 +1,81 @@
+"""Writes random calls of every entry with the reference's answers to standard output (compare/README.md has the layout).
+
+    python3 compare/calls.py SEED COUNT [small]
+
+COUNT is the least number of lines; `small` leaves out those around 16 MiB. Fails unless every refusal of include/refusals.txt that is then within
+reach, and an acceptance of every entry, are among the answers.
+"""
+
+import os
+import random
+import sys
+from collections import Counter
+
+import fast_sponge  # before every other module of the reference
+import hash_calls
+import limit_calls
+import plan_calls
+import seal_calls
+
+# How often each kind is chosen; a session, a seal or a generator is several lines.
+KINDS = {
+    hash_calls.permutation: 3,
+    hash_calls.cshake: 20,
+    hash_calls.kmac: 14,
+    hash_calls.kmacxof: 14,
+    hash_calls.session: 6,
+    seal_calls.seal: 10,
+    seal_calls.generator_calls: 5,
+    plan_calls.read: 8,
+    plan_calls.look: 12,
+    plan_calls.row: 12,
+    plan_calls.write: 6,
+    plan_calls.walk: 3,
+}
+LIMITS = (limit_calls.one_shot, limit_calls.session, limit_calls.seal, limit_calls.draw)
+
+
+def lines(rng, count, small):
+    """The lines, those at the limits first."""
+    yield from plan_calls.limits(rng)
+    if not small:
+        for calls in LIMITS:
+            yield from calls(rng)
+    written = 0
+    while written < count:
+        (calls,) = rng.choices(list(KINDS), KINDS.values())
+        found = list(calls(rng))
+        if not (small and any("16777" in line for line in found)):
+            yield from found
+            written += len(found)
+
+
+def answer_of(line):
+    """(entry, number): 0 where the line has none."""
+    call, _, answer = line.partition(" =")
+    entry = call.split(" ")[0]
+    return entry, int(answer.split()[0]) if answer and entry not in ("keccak_p", "generator_fresh") else 0
+
+
+def owed():
+    """Every refusal in words, and an acceptance of its entry."""
+    with open(os.path.join(fast_sponge.ROOT, "include", "refusals.txt"), encoding="ascii") as table:
+        refusals = {(entry, int(number)) for entry, number, *_ in map(str.split, table)}
+    return refusals | {(entry, 0) for entry, _ in refusals}
+
+
+def main(seed, count, small):
+    seen = Counter()
+    for line in lines(random.Random(seed), count, small):
+        print(line)
+        seen[answer_of(line)] += 1
+    missing = sorted(owed() - set(seen))
+    extra = sorted(pair for pair in set(seen) - owed() if pair[1] != 0)
+    if extra or (missing and not small):
+        sys.exit(f"calls.py: answers not among the calls: {missing}; answers without words: {extra}")
+    accepted = sum(times for (_, number), times in seen.items() if number == 0)
+    print(f"{seen.total()} calls of {len({entry for entry, _ in seen})} entries, {accepted} of them accepted, seed {seed}", file=sys.stderr)
+
+
+if __name__ == "__main__":
+    main(sys.argv[1], int(sys.argv[2]), sys.argv[3:] == ["small"])

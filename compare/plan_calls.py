@@ -1,0 +1,134 @@
+"""Random calls of the plan's entries: good plans, damaged ones, and plans around every limit."""
+
+import plan
+from callfile import pattern, written
+from choose import SEED
+
+ROWS, LARGEST = 4_096, 2_097_151
+VALUES = [0, 1, 127, 128, 300, 16_383, 16_384, 2_097_150, LARGEST]
+FAR = [0, ROWS, ROWS + 1, 2**31, 2**32 - 1]  # chutes of other plans, or of none
+SOURCES = [None, "site", "house"]
+
+
+def destination(rng):
+    """A destination around a change of width, or any."""
+    return rng.choice(VALUES) if rng.random() < 0.6 else rng.randint(0, LARGEST)
+
+
+def destinations(rng):
+    choice = rng.random()
+    if choice < 0.01:
+        count = rng.choice([127, 128, 129, ROWS - 1, ROWS])
+    else:
+        count = rng.randint(0, 3 if choice < 0.3 else 40)
+    return [destination(rng) for _ in range(count)]
+
+
+def in_three_groups(value):
+    """A number in more groups than it may need, which readers accept."""
+    return bytes([value & 127 | 128, value >> 7 & 127 | 128, value >> 14])
+
+
+def plan_of(rows, number):
+    """The plan with these rows, each number as `number` writes it."""
+    return b"".join(map(number, [len(rows), *rows]))
+
+
+def damaged(rng, good):
+    """A plan with a bit flipped, a byte cut, added or put in, or a number of too many groups."""
+    at = rng.randrange(len(good))
+    return rng.choice(
+        [
+            good[:at] + bytes([good[at] ^ 1 << rng.randrange(8)]) + good[at + 1 :],
+            good[:-1],
+            good[:at] + good[at + 1 :],
+            good + rng.randbytes(rng.randint(1, 3)),
+            good[:at] + rng.randbytes(1) + good[at:],
+            good[:-1] + b"\x80\x80\x80\x00",
+            good[:1] + b"\xff\xff\xff" + good[1:],
+        ]
+    )
+
+
+def some_plan(rng):
+    """A plan to be read."""
+    choice = rng.random()
+    if choice < 0.01:
+        return pattern(rng.choice([SEED - 1, SEED, SEED + 1]), 0)
+    if choice < 0.02:
+        return plan.written_number(ROWS + 1) + bytes(rng.choice([ROWS, ROWS + 1]))
+    if choice < 0.05:
+        return rng.randbytes(rng.randint(0, 6))
+    good = plan_of(destinations(rng), in_three_groups if choice < 0.15 else plan.written_number)
+    return damaged(rng, good) if rng.random() < 0.35 else good
+
+
+def some_chute(rng, asked):
+    """A chute around the plan's last row, or a far one."""
+    last = plan.read(asked)[1]
+    return rng.choice(FAR) if rng.random() < 0.1 else max(0, rng.choice([1, 2, last - 1, last, last + 1, rng.randint(0, last + 2)]))
+
+
+def read_of(lent):
+    yield written("plan_read", [lent], plan.read(lent))
+
+
+def look_of(lent, chute):
+    yield written("plan_destination", [lent, chute], plan.destination(lent, chute))
+
+
+def row_of(site, house, chute):
+    number, source, start, length = plan.row(site, house, chute)
+    yield written("plan_row", [site, house, chute], [number, SOURCES.index(source), start, length])
+
+
+def walk_of(lent):
+    """A walk over some rows, and past the last where there are few; of a refused plan too."""
+    state = plan.walker(lent)
+    yield written("plan_start", [lent], [state.number])
+    for _ in range(min(12, plan.read(lent)[1]) + 2):
+        number, found, state = plan.next_row(state)
+        yield written("plan_step", [], [number, found])
+
+
+def read(rng):
+    return read_of(some_plan(rng))
+
+
+def look(rng):
+    lent = some_plan(rng)
+    return look_of(lent, some_chute(rng, lent))
+
+
+def row(rng):
+    site, house = some_plan(rng), some_plan(rng)
+    return row_of(site, house, some_chute(rng, rng.choice([site, house])))
+
+
+def walk(rng):
+    return walk_of(some_plan(rng))
+
+
+def limits(rng):
+    """Every entry that reads a plan, on both sides of the limits of its bytes and of its rows."""
+    short = plan_of([7, 300, 0], plan.written_number)
+    widest = plan_of([LARGEST] * ROWS, in_three_groups)
+    for lent in (widest, plan.written_number(ROWS + 1) + bytes(ROWS + 1), bytes(SEED), bytes(SEED + 1)):
+        yield from read_of(lent)
+        yield from walk_of(lent)
+        for chute in (1, ROWS, ROWS + 1):
+            yield from look_of(lent, chute)
+            yield from row_of(lent, short, chute)
+            yield from row_of(short, lent, chute)
+
+
+def write(rng):
+    """How long the rows' plan is, and writing it into a buffer of that length or another."""
+    rows = destinations(rng) if rng.random() < 0.99 else [0] * (ROWS + 1)
+    if rows and rng.random() < 0.1:
+        rows[rng.randrange(len(rows))] = rng.choice([LARGEST + 1, 2**31, 2**32 - 1])
+    length = len(plan_of(rows, plan.written_number))
+    number, _ = plan.write(rows, length)
+    yield written("plan_length", [rows], [number, 0 if number else length])
+    lent_length = length if rng.random() < 0.8 else max(0, length + rng.choice([-1, 1, -length]))
+    yield written("plan_write", [rows, lent_length], plan.write(rows, lent_length))

@@ -1,0 +1,76 @@
+/* Calls the library for each line of a file of calls (compare/README.md) and compares all that a call leaves: its answer and every lent byte.
+   replay FILE [EDGE]   EDGE canary bytes on both sides of every lent buffer, 64 unless given */
+#include <stdio.h>
+#include <stdlib.h>
+#include <string.h>
+
+#include "replay.h"
+
+size_t edge = 64;
+
+static const struct {
+    const char *entry;
+    int fields;
+    bool (*replay)(const call *line);
+} entries[] = {
+    {"keccak_p", 3, replay_hash},          {"cshake256", 8, replay_hash},
+    {"kmac256", 8, replay_hash},           {"kmacxof256", 8, replay_hash},
+    {"session_cshake256", 4, replay_session}, {"session_kmacxof256", 4, replay_session},
+    {"take", 3, replay_session},           {"give", 4, replay_session},
+    {"seal", 11, replay_seal},             {"open", 10, replay_seal},
+    {"generator_fresh", 1, replay_generator}, {"seed", 6, replay_generator},
+    {"draw", 7, replay_generator},         {"plan_read", 4, replay_plan},
+    {"plan_destination", 5, replay_plan},  {"plan_row", 8, replay_plan},
+    {"plan_length", 4, replay_plan},       {"plan_write", 5, replay_plan},
+    {"plan_start", 3, replay_plan},        {"plan_step", 3, replay_plan},
+};
+enum { ENTRIES = sizeof entries / sizeof entries[0] };
+static long counts[ENTRIES];
+
+static call taken_apart(char *text)
+{
+    call line = {.count = 0};
+    for (char *field = strtok(text, " \n"); field != NULL && line.count < MOST_FIELDS; field = strtok(NULL, " \n"))
+        if (strcmp(field, "=") != 0)
+            line.fields[line.count++] = field;
+    return line;
+}
+
+/* Whether the line is a call whose answer is as expected. */
+static bool replayed(const call *line)
+{
+    for (int i = 0; i < ENTRIES; i++)
+        if (line->count > 0 && strcmp(line->fields[0], entries[i].entry) == 0) {
+            counts[i]++;
+            return line->count == entries[i].fields && entries[i].replay(line);
+        }
+    return false;
+}
+
+int main(int argc, char **argv)
+{
+    FILE *file = argc == 2 || argc == 3 ? fopen(argv[1], "r") : NULL;
+    if (file == NULL) {
+        fprintf(stderr, "usage: replay FILE [EDGE], with a file of calls that can be read\n");
+        return 2;
+    }
+    if (argc == 3)
+        edge = (size_t)strtoul(argv[2], NULL, 10);
+    char *text = NULL;
+    size_t room = 0;
+    long lines = 0, wrong = 0;
+    while (getline(&text, &room, file) != -1) {
+        call line = taken_apart(text);
+        lines++;
+        if (!replayed(&line)) {
+            wrong++;
+            printf("line %ld: %s answers otherwise\n", lines, line.count > 0 ? line.fields[0] : "an empty line");
+        }
+    }
+    free(text);
+    fclose(file);
+    for (int i = 0; i < ENTRIES; i++)
+        printf("%s %ld%s", entries[i].entry, counts[i], i + 1 < ENTRIES ? ", " : "\n");
+    printf("from C, %zu canary bytes on each side: %ld calls, %ld of them answered otherwise\n", edge, lines, wrong);
+    return lines > 0 && wrong == 0 ? 0 : 1;
+}

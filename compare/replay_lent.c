@@ -1,0 +1,112 @@
+/* Lent buffers for the replay: bytes from the file's fields, canaries, and comparison with what is expected. */
+#include <stdio.h>
+#include <stdlib.h>
+#include <string.h>
+
+#include "replay.h"
+
+enum { CANARY = 0xA5 };
+
+static buffer allocated(size_t length)
+{
+    buffer lent = {malloc(edge + length + edge), NULL, length};
+    if (lent.whole == NULL) {
+        fprintf(stderr, "replay: no memory for %zu bytes\n", length);
+        exit(3);
+    }
+    memset(lent.whole, CANARY, edge + length + edge);
+    lent.bytes = lent.whole + edge;
+    return lent;
+}
+
+buffer lend(size_t length) { return allocated(length); }
+
+uint64_t number_of(const char *field) { return strtoull(field, NULL, 10); }
+
+static unsigned digit(char c) { return (unsigned)(c <= '9' ? c - '0' : c - 'a' + 10); }
+
+static uint8_t pair(const char *digits) { return (uint8_t)(16 * digit(digits[0]) + digit(digits[1])); }
+
+static size_t length_of(const char *field)
+{
+    if (field[0] == '-')
+        return 0;
+    return field[0] == '*' || field[0] == '%' ? (size_t)number_of(field + 1) : strlen(field) / 2;
+}
+
+/* Byte i of the bytes that a field names. */
+static uint8_t byte_of(const char *field, size_t seed, size_t i) { return field[0] == '*' ? (uint8_t)(seed + 7 * i + i / 256) : pair(field + 2 * i); }
+
+static size_t seed_of(const char *field) { return field[0] == '*' ? (size_t)number_of(strchr(field, ':') + 1) : 0; }
+
+buffer lend_bytes(const char *field)
+{
+    buffer lent = allocated(length_of(field));
+    size_t seed = seed_of(field);
+    for (size_t i = 0; i < lent.length; i++)
+        lent.bytes[i] = byte_of(field, seed, i);
+    return lent;
+}
+
+buffer lend_rows(const char *field)
+{
+    size_t count = field[0] == '-' ? 0 : 1;
+    for (const char *at = field; *at != 0; at++)
+        count += *at == ',';
+    buffer lent = allocated(4 * count);
+    for (size_t i = 0; i < count; i++) {
+        ((uint32_t *)(void *)lent.bytes)[i] = (uint32_t)number_of(field);
+        field = strchr(field, ',') + 1;
+    }
+    return lent;
+}
+
+static bool all_canaries(const uint8_t *from, size_t length)
+{
+    for (size_t i = 0; i < length; i++)
+        if (from[i] != CANARY)
+            return false;
+    return true;
+}
+
+bool edges_stand(const buffer *lent) { return all_canaries(lent->whole, edge) && all_canaries(lent->bytes + lent->length, edge); }
+
+bool untouched(const buffer *lent) { return all_canaries(lent->whole, edge + lent->length + edge); }
+
+bool still(const buffer *lent, const char *field)
+{
+    size_t seed = seed_of(field);
+    bool same = edges_stand(lent) && lent->length == length_of(field);
+    for (size_t i = 0; same && i < lent->length; i++)
+        same = lent->bytes[i] == byte_of(field, seed, i);
+    return same;
+}
+
+/* CRC-32 as zlib has it, by a table of the 256 bytes. */
+static uint32_t crc32(const uint8_t *bytes, size_t length)
+{
+    static uint32_t table[256];
+    for (uint32_t n = 0; table[255] == 0 && n < 256; n++) {
+        table[n] = n;
+        for (int bit = 0; bit < 8; bit++)
+            table[n] = table[n] & 1 ? table[n] >> 1 ^ 0xEDB88320 : table[n] >> 1;
+    }
+    uint32_t crc = 0xFFFFFFFF;
+    for (size_t i = 0; i < length; i++)
+        crc = table[(crc ^ bytes[i]) & 255] ^ crc >> 8;
+    return ~crc;
+}
+
+bool holds(const buffer *lent, const char *field)
+{
+    if (field[0] != '%')
+        return still(lent, field);
+    uint32_t expected = (uint32_t)strtoul(strchr(field, ':') + 1, NULL, 16);
+    return edges_stand(lent) && lent->length == length_of(field) && crc32(lent->bytes, lent->length) == expected;
+}
+
+void give_back(buffer *lent)
+{
+    free(lent->whole);
+    *lent = (buffer){NULL, NULL, 0};
+}
