@@ -1,6 +1,6 @@
 // Works the accepted calls of the file (compare/README.md) out with Bouncy Castle and compares the outputs; for Java 17 or later.
 //   java -cp /usr/share/java/bcprov.jar compare/BouncyCastle.java FILE
-// Openings that are refused with 8 are worked out too: their tag has to be another. Counts of runs are not compared, since Bouncy Castle has none.
+// Openings refused with 8 are worked out too: their tag has to be another. Bouncy Castle 1.72 takes every accepted call, and counts no runs.
 
 import static org.bouncycastle.util.Arrays.concatenate;
 

@@ -80,7 +80,7 @@ class Reader:
 
     def key(self) -> bytes:
         """The generator's key, which the module keeps to itself."""
-        return bytes(self.generator._state.key)
+        return bytes(self.generator._state().key)
 
     def seed(self, given: Any) -> Tuple:
         return 0, self.generator.seed(given.seed, given.personalisation), self.key()

@@ -4,9 +4,7 @@ from typing import Any
 
 from .lending import BytesLike, Output, lent, output, room_for, size
 from .library import functions
-from .refusal import accept
 from .secret import Secret
-from .structs import Draw
 
 
 class Generator(Secret):
@@ -22,24 +20,20 @@ class Generator(Secret):
     '7a59e4879eaf09a3cab7030536e9def0'
     """
 
-    def __init__(self) -> None:
-        self._put(functions.hf_generator_fresh())
+    _field = "generator"
 
-    def _went(self, entry: str, draw: Draw) -> int:
-        """Keeps the generator that a call handed back, which on a refusal is the one passed in; answers the count."""
-        self._put(draw.generator)
-        accept(entry, draw.number)
-        return draw.runs
+    def __init__(self) -> None:
+        super().__init__(functions.hf_generator_fresh())
 
     def seed(self, seed: BytesLike, personalisation: BytesLike = b"") -> int:
         """Makes a new key of the old one, the seed and the personalisation; answers the number of permutations by the definition. Refuses with 3, 5."""
-        return self._went("seed", functions.hf_generator_seed(self._state, *lent("seed", seed), *lent("personalisation", personalisation)))
+        return self._advance("seed", functions.hf_generator_seed, *lent("seed", seed), *lent("personalisation", personalisation)).runs
 
     def draw(self, length: int, additional: BytesLike = b"") -> Output:
         """So many bytes; two draws of 10 bytes are not one of 20. Refuses with 1, 3, 6."""
         room = room_for(size("length", length))
-        runs = self._went("draw", functions.hf_generator_draw(self._state, *lent("additional", additional), room, len(room)))
-        return output(room, runs)
+        answer = self._advance("draw", functions.hf_generator_draw, *lent("additional", additional), room, len(room))
+        return output(room, answer.runs)
 
     def __reduce_ex__(self, protocol: Any) -> Any:
         raise TypeError("a generator cannot be copied: two copies would draw the same bytes")

@@ -5,7 +5,7 @@
 ('03 07 ac 02 00', 3, [7, 300, 0])
 """
 
-from ctypes import c_uint32
+from ctypes import c_uint32, string_at
 from itertools import islice
 from typing import Any, Iterable, Iterator, NamedTuple, Tuple
 
@@ -13,6 +13,7 @@ from .lending import BytesLike, lent, number_of, room_for
 from .library import functions
 from .refusal import accept
 
+PLAN_LIMIT = 65_536  # bytes: a longer plan is refused
 ROWS_LIMIT = 4_096  # rows: a plan with more is refused
 SOURCES = {1: "site", 2: "house"}
 
@@ -53,11 +54,11 @@ def row(site: BytesLike, house: BytesLike, chute: int) -> Row:
     >>> row(bytes([1, 9]), bytes([3, 7, 172, 2, 0]), 2)
     Row(source='house', start=2, bytes=b'\\xac\\x02')
     """
-    answer = functions.hf_plan_row(*lent("site", site), *lent("house", house), number_of("chute", chute))
+    lent_plans = {"site": lent("site", site), "house": lent("house", house)}
+    answer = functions.hf_plan_row(*lent_plans["site"], *lent_plans["house"], number_of("chute", chute))
     accept("plan_row", answer.number)
     source = SOURCES[answer.source]
-    plan = memoryview(site if source == "site" else house).tobytes()
-    return Row(source, answer.start, plan[answer.start : answer.start + answer.length])
+    return Row(source, answer.start, string_at(*lent_plans[source])[answer.start : answer.start + answer.length])
 
 
 def write(destinations: Iterable[int]) -> bytes:
@@ -73,8 +74,8 @@ def write(destinations: Iterable[int]) -> bytes:
 
 def walk(plan: BytesLike) -> Iterator[int]:
     """The destinations one after another. The plan is read whole at once: this call, not the first step, refuses with 5, 9."""
-    own = memoryview(plan).tobytes() if not isinstance(plan, (bytes, str)) else plan  # of its own, since the plan must not change meanwhile
-    lent_plan = lent("plan", own)
+    pointer, length = lent("plan", plan)
+    lent_plan = lent("plan", string_at(pointer, min(length, PLAN_LIMIT + 1)))  # a copy, since the plan must not change meanwhile
     cursor = functions.hf_plan_start(*lent_plan)
     accept("plan_start", cursor.number)
     return steps(lent_plan, cursor.at)

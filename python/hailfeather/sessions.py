@@ -6,7 +6,7 @@ from .lending import BytesLike, lent, room_for, size
 from .library import functions
 from .refusal import accept
 from .secret import Secret
-from .structs import SessionState, Step
+from .structs import SessionState
 
 
 class Session(Secret):
@@ -23,8 +23,7 @@ class Session(Secret):
     hailfeather.refusal.Refusal: refused 1: the session has begun to give output and takes no more of the message
     """
 
-    def __init__(self, state: SessionState) -> None:
-        self._put(state)
+    _field = "session"
 
     @classmethod
     def cshake256(cls, name: BytesLike = b"", customisation: BytesLike = b"") -> "Session":
@@ -42,19 +41,14 @@ class Session(Secret):
         accept(entry, step.number)
         return cls(step.session)
 
-    def _went(self, entry: str, step: Step) -> None:
-        """Keeps the session that a step handed back, which on a refusal is the one passed in."""
-        self._put(step.session)
-        accept(entry, step.number)
-
     def take(self, piece: BytesLike) -> None:
         """Takes a piece of the message. Refuses with 1, 5."""
-        self._went("take", functions.hf_session_take(self._state, *lent("piece", piece)))
+        self._advance("take", functions.hf_session_take, *lent("piece", piece))
 
     def give(self, length: int) -> bytes:
         """The next bytes of output. Refuses with 6."""
         room = room_for(size("length", length))
-        self._went("give", functions.hf_session_give(self._state, room, len(room)))
+        self._advance("give", functions.hf_session_give, room, len(room))
         return bytes(room)
 
     def copy(self) -> "Session":
@@ -66,9 +60,13 @@ class Session(Secret):
         >>> common.give(16) == other.give(16)
         True
         """
-        return type(self)(SessionState.from_buffer_copy(self._state))
+        with self._lock:
+            return type(self)(SessionState.from_buffer_copy(self._state()))
 
     __copy__ = copy
+
+    def __deepcopy__(self, memo: object) -> "Session":
+        return self.copy()
 
     def write(self, piece: BytesLike) -> int:
         """`take` as a file has it: answers how many bytes were taken, which is all of them.
@@ -84,5 +82,6 @@ class Session(Secret):
 
     def read(self, size: Optional[int] = -1) -> bytes:
         """`give` as a file has it: the bytes that are left where fewer are left, so none at the end; all of them with None or a negative size."""
-        left = self._state.limit - self._state.given
+        state = self._state()
+        left = state.limit - state.given
         return self.give(left if size is None or size < 0 else min(size, left))
