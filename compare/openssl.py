@@ -2,9 +2,9 @@
 
     python3 compare/openssl.py FILE [MOST]
 
-cSHAKE256 without name and customisation is SHAKE256, and all such lines go to hashlib. KMAC256 and KMACXOF256 go to OpenSSL 3, at most MOST of them (400
-unless given), evenly chosen over the file but with every message of 1 MiB or more. Prints how many were compared and how many lie outside OpenSSL's
-limits; exits with 1 on any difference, or where a function has no line to compare.
+cSHAKE256 without name and customisation is SHAKE256, and all such lines go to hashlib. KMAC256 and KMACXOF256 go to OpenSSL 3, at most MOST of
+them (400 unless given), evenly chosen over the file but with every message of 1 MiB or more. Prints how many were compared and how many lie outside
+OpenSSL's limits; exits with 1 on any difference, or where a function has no line to compare.
 """
 
 import hashlib

@@ -26,7 +26,7 @@ class Generator(Secret):
         super().__init__(functions.hf_generator_fresh())
 
     def seed(self, seed: BytesLike, personalisation: BytesLike = b"") -> int:
-        """Makes a new key of the old one, the seed and the personalisation; answers the number of permutations by the definition. Refuses with 3, 5."""
+        """Makes a new key of the old one, the seed and the personalisation; answers the call's number of permutations. Refuses with 3, 5."""
         return self._advance("seed", functions.hf_generator_seed, *lent("seed", seed), *lent("personalisation", personalisation)).runs
 
     def draw(self, length: int, additional: BytesLike = b"") -> Output:

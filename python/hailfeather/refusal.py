@@ -12,7 +12,7 @@ def words_by_entry() -> Dict[Tuple[str, int], str]:
     try:
         lines = FILE.read_text(encoding="utf-8").splitlines()
     except OSError as reason:
-        raise ImportError(f"the refusals' words cannot be read ({reason}): import hailfeather from its repository, which has them in {FILE}") from None
+        raise ImportError(f"the refusals' words cannot be read ({reason}): import hailfeather from its repository, which has them") from None
     parts = [line.split(" ", 2) for line in lines]
     return {(entry, int(number)): words for entry, number, words in parts}
 
