@@ -96,7 +96,7 @@ class Lengths(unittest.TestCase):
                 peak = tracemalloc.get_traced_memory()[1]
                 tracemalloc.stop()
                 self.assertEqual(caught.exception.number, 7 if name == "seal" else 6, name)
-                self.assertLess(peak, 17 << 20, name)
+                self.assertLess(peak, (1 if name == "seal" else 17) << 20, name)
 
     def test_lanes(self) -> None:
         self.assertEqual(len(keccak_p([LARGEST] * 25)), 25)

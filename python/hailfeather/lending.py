@@ -35,7 +35,7 @@ def lent(name: str, argument: BytesLike) -> Tuple[Any, int]:
             view = memoryview(argument)
         except TypeError:
             raise TypeError(f"{name} has to be bytes, a bytearray or a memoryview, not {type(argument).__name__}") from None
-        if view.nbytes > 0 and view.c_contiguous and not view.readonly:
+        if view.nbytes > 0 and view.c_contiguous and not view.readonly:  # an empty buffer may have a null pointer, which the library is never lent
             return (c_uint8 * view.nbytes).from_buffer(view), view.nbytes
         argument = view.tobytes()
     return cast(c_char_p(argument), BYTES), len(argument)
