@@ -60,7 +60,13 @@ absorbed-blocks (suc n) a m h =
     ∙ ap (λ (s : Running). absorbed s (drop 136 m)) (absorbed-block (take 136 m) a 0 (omega arith) (simp length-take (omega arith)))
     ∙ absorbed-blocks n (keccakP (xorBytes a 0 (take 136 m))) (drop 136 m) (simp length-drop (omega arith))
 
--- a turn of a loop that absorbs l: one byte, or one block
+-- a turn of a loop that absorbs l: n bytes more; one byte; one block
+pub absorbed-run : (s : Running) (l a : List ℕ) (i p n : ℕ) → running a p ≡ absorbed s (take i l) → absorbed (running a p) (take n (drop i l)) ≡ absorbed s (take (i + n) l)
+absorbed-run s l a i p n e =
+    ap (λ (t : Running). absorbed t (take n (drop i l))) e
+    ∙ sym (absorbed-append s (take i l) (take n (drop i l)))
+    ∙ ap (absorbed s) (sym (take-add i n l))
+
 pub absorbed-more : (s : Running) (l a : List ℕ) (i p : ℕ) → running a p ≡ absorbed s (take i l) → i < length l → absorbByte (running a p) (getD l i 0) ≡ absorbed s (take (i + 1) l)
 absorbed-more s l a i p e h =
     ap (λ (t : Running). absorbByte t (getD l i 0)) e
@@ -71,10 +77,7 @@ absorbed-more s l a i p e h =
 pub absorbed-more-block : (s : Running) (l a : List ℕ) (i : ℕ) → running a 0 ≡ absorbed s (take i l) → i + 136 ≤ length l
     → running (keccakP (xorBytes a 0 (take 136 (drop i l)))) 0 ≡ absorbed s (take (i + 136) l)
 absorbed-more-block s l a i e h =
-    sym (absorbed-block (take 136 (drop i l)) a 0 (omega arith) (simp (length-take, length-drop) (omega arith)))
-    ∙ ap (λ (t : Running). absorbed t (take 136 (drop i l))) e
-    ∙ sym (absorbed-append s (take i l) (take 136 (drop i l)))
-    ∙ ap (absorbed s) (sym (take-add i 136 l))
+    sym (absorbed-block (take 136 (drop i l)) a 0 (omega arith) (simp (length-take, length-drop) (omega arith))) ∙ absorbed-run s l a i 0 136 e
 
 -- ---- squeezing
 

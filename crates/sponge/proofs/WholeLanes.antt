@@ -83,6 +83,12 @@ xor-lane bs a i h hb =
     let w : fromBytes bs * 1 ≡ fromBytes bs = omega arith in
     ap (λ (k : ℕ). xorBytes a k bs) (sym (add-zero (8 * i))) ∙ xor-lane-from bs a i 0 (omega arith) hb ∙ ap (λ (x : ℕ). set a i (bitXor (getD a i 0) x)) w
 
+-- the same at byte p, where a lane begins
+pub xor-lane-at : (bs a : List ℕ) (p : ℕ) → p % 8 ≡ 0 → length bs ≤ 8 → Bytes bs → set a (p / 8) (bitXor (getD a (p / 8) 0) (fromBytes bs)) ≡ xorBytes a p bs
+xor-lane-at bs a p z h hb =
+    let e : 8 * (p / 8) ≡ p = omega arith in
+    sym (xor-lane bs a (p / 8) h hb) ∙ ap (λ (k : ℕ). xorBytes a k bs) e
+
 -- one lane more of the block that stands at `at` in s
 pub xor-lane-more : (s a : List ℕ) (at i : ℕ) → Bytes s → at + 8 * i + 8 ≤ length s
     → set (xorBytes a 0 (take (8 * i) (drop at s))) i (bitXor (getD (xorBytes a 0 (take (8 * i) (drop at s))) i 0) (fromBytes (take 8 (drop (at + 8 * i) s))))
@@ -121,6 +127,11 @@ pub bytes-lane : (a : List ℕ) (i : ℕ) → bytesAt a (8 * i) 8 ≡ toBytes 8 
 bytes-lane a i =
     let w : getD a i 0 / 1 ≡ getD a i 0 = omega arith in
     ap (λ (k : ℕ). bytesAt a k 8) (sym (add-zero (8 * i))) ∙ bytes-lane-from 8 a i 0 (omega arith) ∙ ap (toBytes 8) w
+
+pub bytes-lane-at : (a : List ℕ) (p : ℕ) → p % 8 ≡ 0 → toBytes 8 (getD a (p / 8) 0) ≡ bytesAt a p 8
+bytes-lane-at a p z =
+    let e : 8 * (p / 8) ≡ p = omega arith in
+    sym (bytes-lane a (p / 8)) ∙ ap (λ (k : ℕ). bytesAt a k 8) e
 
 toBytes-append : (n m v : ℕ) → toBytes (n + m) v ≡ toBytes n v ++ toBytes m (v / 2 ^ (8 * n))
 unfolding toBytes

@@ -1,6 +1,6 @@
-// Bytes in and out of the lanes: single bytes, and whole blocks of 136 by lanes of eight (FIPS 202, B.1).
+// Bytes in and out of the lanes: single bytes, lanes of eight, and whole blocks of 136 (FIPS 202, B.1).
 ghost use mathlib.Core.Path.{_≡_};
-ghost use Prim.Native.Nat.{_+_, _<_, _≤_};
+ghost use Prim.Native.Nat.{_+_, _%_, _<_, _≤_};
 ghost use lib.ListN.{length, take, drop};
 ghost use lib.Seq.{sets};
 ghost use Rattle.sponge.specs.Sponge.{xorByte, xorBytes, byteAt, bytesAt};
@@ -51,6 +51,14 @@ fn load8(s: &[u8], at: usize) -> u64
     load4(s, at) + load4(s, at + 4) * 0x1_0000_0000
 }
 
+// The eight bytes of `s` from `at` on put in at byte `p`, where a lane begins.
+pub fn xor_lane(lanes: &mut [u64; 25], p: usize, s: &[u8], at: usize)
+    requires { ⌜ (p % 8 ≡ 0) × (p < 136) × (at + 8 ≤ length (now s)) ⌝ }
+    ensures { λ r. ⌜ now (lanes .exit) ≡ xorBytes (now (lanes .entry)) p (take 8 (drop at (now (s .entry)))) ⌝ }
+{
+    lanes[p / 8] = lanes[p / 8] ^ load8(s, at);
+}
+
 // The block of `s` from `at` on put into the first 17 lanes.
 pub fn xor_block(lanes: &mut [u64; 25], s: &[u8], at: usize)
     requires { ⌜ at + 136 ≤ length (now s) ⌝ }
@@ -93,6 +101,14 @@ fn store8(out: &mut [u8], at: usize, v: u64)
 {
     store4(out, at, v);
     store4(out, at + 4, v / 0x1_0000_0000);
+}
+
+// The eight bytes from byte `p` on, where a lane begins, into `out` from `at` on.
+pub fn put_lane(out: &mut [u8], at: usize, lanes: &[u64; 25], p: usize)
+    requires { ⌜ (p % 8 ≡ 0) × (p < 136) × (at + 8 ≤ length (now out)) ⌝ }
+    ensures { λ r. ⌜ now (out .exit) ≡ sets (now (out .entry)) at (bytesAt (now (lanes .entry)) p 8) ⌝ }
+{
+    store8(out, at, lanes[p / 8]);
 }
 
 // The first 17 lanes into `out` from `at` on.

@@ -1,14 +1,16 @@
 // The sponge with Keccak-p[1600, 24] at a rate of 136 bytes (FIPS 202, chapter 4), run piece by piece on lanes that the caller keeps, with the position of
 // the next byte in the block. A position at which the block is full, or beyond, is taken modulo 136 by the functions that put bytes in.
 ghost use mathlib.Core.Path.{_≡_};
-ghost use Prim.Native.Nat.{_-_, _%_, _<_};
-ghost use lib.ListN.{length, replicate};
+ghost use Prim.Native.Nat.{_+_, _-_, _%_, _<_, _≤_};
+ghost use lib.ListN.{length, take, drop, replicate};
 ghost use Rattle.sponge.specs.Running.{running, absorbByte, absorbed, finished, refreshed, squeezed, after};
 use keccak::permute;
 use lanes::byte_at;
 use lanes::put_block;
+use lanes::put_lane;
 use lanes::xor_block;
 use lanes::xor_byte;
+use lanes::xor_lane;
 
 mod lanes;
 
@@ -25,7 +27,20 @@ fn absorb_byte(lanes: &mut [u64; 25], p: usize, b: u8) -> usize
     0
 }
 
-// A piece of input put in from `position` on; the position after it. Whole blocks go in by lanes, bytes only at ragged ends.
+// The eight bytes of `piece` from `i` on put in at position `p`, where a lane begins; the position after them.
+fn absorb_lane(lanes: &mut [u64; 25], p: usize, piece: &[u8], i: usize) -> usize
+    requires { ⌜ (p % 8 ≡ 0) × (p < 136) × (i + 8 ≤ length (now piece)) ⌝ }
+    ensures { λ r. ⌜ (running (now (lanes .exit)) r ≡ absorbed (running (now (lanes .entry)) p) (take 8 (drop i (now (piece .entry))))) × (r < 136) ⌝ }
+{
+    xor_lane(lanes, p, piece, i);
+    if p < 128 {
+        return p + 8;
+    }
+    permute(lanes);
+    0
+}
+
+// A piece of input put in from `position` on; the position after it. Whole blocks and whole lanes go in by lanes, single bytes only at ragged ends.
 pub fn absorb(lanes: &mut [u64; 25], position: usize, piece: &[u8]) -> usize
     ensures { λ r. ⌜ (running (now (lanes .exit)) r ≡ absorbed (running (now (lanes .entry)) (position % 136)) (now (piece .entry))) × (r < 136) ⌝ }
 {
@@ -37,6 +52,13 @@ pub fn absorb(lanes: &mut [u64; 25], position: usize, piece: &[u8]) -> usize
                 xor_block(lanes, piece, i);
                 permute(lanes);
                 i += 136;
+                continue;
+            }
+        }
+        if p % 8 == 0 {
+            if 8 <= piece.len() - i {
+                p = absorb_lane(lanes, p, piece, i);
+                i += 8;
                 continue;
             }
         }
@@ -76,7 +98,7 @@ fn refresh(lanes: &mut [u64; 25], p: usize) -> usize
     0
 }
 
-// `out` filled with output from `position` on; the position after it. Whole blocks come out by lanes.
+// `out` filled with output from `position` on; the position after it. Whole blocks and whole lanes come out by lanes.
 pub fn squeeze(lanes: &mut [u64; 25], position: usize, out: &mut [u8]) -> usize
     ensures { λ r. ⌜ (running (now (lanes .exit)) r ≡ after (length (now (out .entry))) (running (now (lanes .entry)) position))
         × (now (out .exit) ≡ squeezed (length (now (out .entry))) (running (now (lanes .entry)) position)) ⌝ }
@@ -90,6 +112,14 @@ pub fn squeeze(lanes: &mut [u64; 25], position: usize, out: &mut [u8]) -> usize
                 put_block(out, i, lanes);
                 p = 136;
                 i += 136;
+                continue;
+            }
+        }
+        if p % 8 == 0 {
+            if 8 <= out.len() - i {
+                put_lane(out, i, lanes, p);
+                p += 8;
+                i += 8;
                 continue;
             }
         }

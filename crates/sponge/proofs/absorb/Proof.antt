@@ -1,11 +1,12 @@
--- The loop's invariant: lanes and position are those after the bytes passed. A turn adds one byte, or one block where the position is 0.
+-- The loop's invariant: lanes and position are those after the bytes passed. A turn adds one byte, one lane where one
+-- begins, or one block where the position is 0.
 use mathlib.Core.Path.{_≡_, refl, _∙_, ap}
 use Prim.Native.Nat.{_≤_, _<_, _+_, _-_, _%_}
 use native.Mathlib.Omega.{arith}
 use lib.ListN.{length, take}
 use lib.Seq.{take-all}
 use Rattle.sponge.specs.Running.{running, absorbed}
-use Rattle.sponge.proofs.Absorbing.{absorbed-more, absorbed-more-block}
+use Rattle.sponge.proofs.Absorbing.{absorbed-run, absorbed-more, absorbed-more-block}
 use Rattle.sponge.proofs.absorb.Statement.{statement}
 use Rattle.sponge.proofs.absorb.Tie as tie
 
@@ -46,11 +47,11 @@ loop-again c =
           (absorbed-more-block (running (a .lanes .now) (a .position % 136)) (a .piece .now) (k .lanes) (k .i) (rw z at (k .inv .2)) h),
     )
 
-shared-slice-read-absorb-byte : tie.Need-shared-slice-read-absorb-byte Inv-loop μ-loop
-shared-slice-read-absorb-byte c = omega arith
+sub-if4 : tie.Need-sub-if4 Inv-loop μ-loop
+sub-if4 c = omega arith
 
-absorb-byte-requires : tie.Need-absorb-byte-requires Inv-loop μ-loop
-absorb-byte-requires c κs = omega arith
+absorb-lane-requires : tie.Need-absorb-lane-requires Inv-loop μ-loop
+absorb-lane-requires c κs = (omega arith, omega arith, omega arith)
 
 add-i-2 : tie.Need-add-i-2 Inv-loop μ-loop
 add-i-2 c = omega arith
@@ -60,8 +61,29 @@ loop-less-2 c = omega arith
 
 loop-again-2 : tie.Need-loop-again-2 Inv-loop μ-loop
 loop-again-2 c =
-    let a = c .before .before .before .before .before .before .before .args in
-    let k = c .before .before .before .before .before .loop in
+    let a = c .before .before .before .before .before .before .before .before .args in
+    let k = c .before .before .before .before .before .before .loop in (
+      omega arith,
+      c .absorb-lane .ensures .1,
+      c .absorb-lane .ensures .0 ∙ absorbed-run (running (a .lanes .now) (a .position % 136)) (a .piece .now) (k .lanes) (k .i) (k .p) 8 (k .inv .2),
+    )
+
+shared-slice-read-absorb-byte : tie.Need-shared-slice-read-absorb-byte Inv-loop μ-loop
+shared-slice-read-absorb-byte c = omega arith
+
+absorb-byte-requires : tie.Need-absorb-byte-requires Inv-loop μ-loop
+absorb-byte-requires c κs = omega arith
+
+add-i-3 : tie.Need-add-i-3 Inv-loop μ-loop
+add-i-3 c = omega arith
+
+loop-less-3 : tie.Need-loop-less-3 Inv-loop μ-loop
+loop-less-3 c = omega arith
+
+loop-again-3 : tie.Need-loop-again-3 Inv-loop μ-loop
+loop-again-3 c =
+    let a = c .before .before .before .before .before .before .before .before .args in
+    let k = c .before .before .before .before .before .before .loop in
     let h : k .i < length (a .piece .now) = omega arith in (
       omega arith,
       c .absorb-byte .ensures .1,
@@ -88,9 +110,14 @@ absorb-spec =
     add-i
     loop-less
     loop-again
-    shared-slice-read-absorb-byte
-    absorb-byte-requires
+    sub-if4
+    absorb-lane-requires
     add-i-2
     loop-less-2
     loop-again-2
+    shared-slice-read-absorb-byte
+    absorb-byte-requires
+    add-i-3
+    loop-less-3
+    loop-again-3
     returns)

@@ -1,5 +1,5 @@
--- The loop's invariant: `out` begins with the bytes squeezed so far, and lanes and position are those after them. A turn adds one byte, or one
--- block where the position is 0.
+-- The loop's invariant: `out` begins with the bytes squeezed so far, and lanes and position are those after them. A turn adds one byte, one
+-- lane where one begins, or one block where the position is 0.
 use mathlib.Core.Path.{_≡_, refl, sym, _∙_, ap}
 use Prim.Native.Nat.{_≤_, _+_, _-_, _*_}
 use native.Mathlib.Omega.{arith}
@@ -52,11 +52,11 @@ loop-again c =
       b .ensures ∙ rw (k .inv .3) (squeezed-more s (a .out .now) (t .last .0) (k .lanes) (k .i) 0 (k .p) 135 (k .inv .2) f (omega arith)),
     )
 
-byte-at-requires : tie.Need-byte-at-requires Inv-loop μ-loop
-byte-at-requires c κs = omega arith
+sub-if4 : tie.Need-sub-if4 Inv-loop μ-loop
+sub-if4 c = omega arith
 
-slice-write-out : tie.Need-slice-write-out Inv-loop μ-loop
-slice-write-out c = omega arith
+put-lane-requires : tie.Need-put-lane-requires Inv-loop μ-loop
+put-lane-requires c κs = (omega arith, omega arith, omega arith)
 
 add-p : tie.Need-add-p Inv-loop μ-loop
 add-p c = omega arith
@@ -69,9 +69,38 @@ loop-less-2 c = omega arith
 
 loop-again-2 : tie.Need-loop-again-2 Inv-loop μ-loop
 loop-again-2 c =
-    let a = c .before .before .before .before .before .before .before .before .args in
-    let k = c .before .before .before .before .before .before .loop in
-    let t = c .before .before .before .refresh in
+    let a = c .before .before .before .before .before .before .before .before .before .before .before .before .before .args in
+    let k = c .before .before .before .before .before .before .before .before .before .before .before .loop in
+    let t = c .before .before .before .before .before .before .before .before .refresh in
+    let b = c .before .before .put-lane in
+    let s = running (a .lanes .now) (a .position) in
+    let h : t .result + 8 ≤ 136 = omega arith in (
+      omega arith,
+      b .kept .0 ∙ k .inv .1,
+      after-more s (a .out .now) (t .last .0) (k .lanes) (k .i) (t .result) (k .p) 7 (k .inv .2) (t .ensures .0) h,
+      b .ensures ∙ rw (k .inv .3) (squeezed-more s (a .out .now) (t .last .0) (k .lanes) (k .i) (t .result) (k .p) 7 (k .inv .2) (t .ensures .0) h),
+    )
+
+byte-at-requires : tie.Need-byte-at-requires Inv-loop μ-loop
+byte-at-requires c κs = omega arith
+
+slice-write-out : tie.Need-slice-write-out Inv-loop μ-loop
+slice-write-out c = omega arith
+
+add-p-2 : tie.Need-add-p-2 Inv-loop μ-loop
+add-p-2 c = omega arith
+
+add-i-3 : tie.Need-add-i-3 Inv-loop μ-loop
+add-i-3 c = omega arith
+
+loop-less-3 : tie.Need-loop-less-3 Inv-loop μ-loop
+loop-less-3 c = omega arith
+
+loop-again-3 : tie.Need-loop-again-3 Inv-loop μ-loop
+loop-again-3 c =
+    let a = c .before .before .before .before .before .before .before .before .before .args in
+    let k = c .before .before .before .before .before .before .before .loop in
+    let t = c .before .before .before .before .refresh in
     let s = running (a .lanes .now) (a .position) in
     let h : t .result + 1 ≤ 136 = omega arith in (
       omega arith,
@@ -107,11 +136,17 @@ squeeze-spec =
     add-i
     loop-less
     loop-again
-    byte-at-requires
-    slice-write-out
+    sub-if4
+    put-lane-requires
     add-p
     add-i-2
     loop-less-2
     loop-again-2
+    byte-at-requires
+    slice-write-out
+    add-p-2
+    add-i-3
+    loop-less-3
+    loop-again-3
     same-length
     returns)

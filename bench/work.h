@@ -1,0 +1,36 @@
+/* The work that is measured, and who does it: ours, OpenSSL and portable C do the same on the same buffers. */
+#ifndef WORK_H
+#define WORK_H
+#include <stddef.h>
+#include <stdint.h>
+
+enum { MOST = 1 << 20, BLOCK = 136, KEY = 32, IV = 16, NAME = 8, CUSTOM = 8, TAG = 32, OUT = 64, SEED_KEY = 64, PLAN_MOST = 12290 };
+
+/* All that any of them reads or writes; buffers are touched before they are measured. */
+struct work {
+    uint8_t key[KEY], iv[IV], name[NAME], custom[CUSTOM], text[MOST], sealed[MOST], seal_tag[TAG], plan[PLAN_MOST], drawing_key[SEED_KEY];
+    size_t plan_length;
+    /* written: */
+    uint8_t out[MOST], tag[TAG];
+    uint64_t lanes[25];
+    uint32_t answer;
+};
+extern struct work work;
+
+/* What can be done, each with a size: bytes of the message, text or output; for the permutation the runs; for a session the bytes of a piece of
+   1 MiB; for a plan the bytes of a row. */
+enum kind { PERMUTATION, SHAKE256, CSHAKE256, KMAC256, KMACXOF256, SESSION, SEALING, OPENING, DRAWING, PLAN_READ, PLAN_LOOKUP, KINDS };
+
+/* One that does it; NULL where it has no such function. */
+typedef void task(size_t size);
+struct worker {
+    const char *name;
+    task *tasks[KINDS];
+};
+extern const struct worker ours, openssl, portable;
+
+task portable_plan_read, portable_plan_lookup;
+
+/* A plan of 4,096 rows of this many bytes each into work.plan. */
+void make_plan(size_t row_bytes);
+#endif
