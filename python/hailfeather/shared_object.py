@@ -39,10 +39,9 @@ def archive() -> Path:
     bash = command("bash", f"runs {BUILD}", "install bash")
     said = []
     with subprocess.Popen([bash, str(BUILD)], stdout=subprocess.PIPE, stderr=subprocess.PIPE, universal_newlines=True) as script:
-        assert script.stdout and script.stderr
         for line in script.stderr:
             sys.stderr.write(line)
-            said.append(line.strip())
+            said.append(line.strip().replace("hailfeather: ", "", 1))
         path = script.stdout.read().strip()
     if script.returncode != 0:
         raise ImportError(f"{BUILD} has no static library: {' '.join(said)}; or {ELSE}")
