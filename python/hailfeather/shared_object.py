@@ -44,7 +44,7 @@ def archive() -> Path:
             said.append(line.strip().replace("hailfeather: ", "", 1))
         path = script.stdout.read().strip()
     if script.returncode != 0:
-        raise ImportError(f"{BUILD} has no static library: {' '.join(said)}; or {ELSE}")
+        raise ImportError(f"{BUILD} finds no static library: {' '.join(said)}; put this right, or {ELSE}")
     return Path(path)
 
 
