@@ -1,0 +1,199 @@
+// Works the accepted calls of the file (compare/README.md) out with Bouncy Castle and compares the outputs; for Java 17 or later.
+//   java -cp /usr/share/java/bcprov.jar compare/BouncyCastle.java FILE
+// Openings refused with 8 are worked out too: their tag has to be another. Bouncy Castle 1.72 takes every accepted call, and counts no runs.
+
+import static org.bouncycastle.util.Arrays.concatenate;
+
+import java.io.ByteArrayOutputStream;
+import java.nio.charset.StandardCharsets;
+import java.nio.file.*;
+import java.util.*;
+import java.util.zip.CRC32;
+import org.bouncycastle.crypto.digests.CSHAKEDigest;
+import org.bouncycastle.crypto.macs.KMAC;
+import org.bouncycastle.crypto.params.KeyParameter;
+
+public final class BouncyCastle {
+    static final int AUTH_KEY = 32; // bytes: the authentication key of a seal
+    static final int GENERATOR_KEY = 64;
+    static final int PIECE = 208;
+    static final byte[] NONE = {};
+    static final byte[] SEED_NAME = "cSHAKE-DRNG seed".getBytes(StandardCharsets.US_ASCII);
+    static final byte[] GENERATE_NAME = "cSHAKE-DRNG generate".getBytes(StandardCharsets.US_ASCII);
+    static final String NOT_OFFERED = "the permutation and plans, which Bouncy Castle does not offer";
+    static final String NOT_STARTED = "a session that could not start";
+
+    /** A line: the fields before and after its `=`. */
+    record Call(int line, String entry, String[] given, String[] answer) {
+        static Call of(int line, String text) {
+            String[] sides = text.split(" = ?", -1);
+            String[] call = sides[0].split(" ");
+            return new Call(line, call[0], Arrays.copyOfRange(call, 1, call.length), sides[1].split(" "));
+        }
+
+        byte[] bytes(int place) {
+            return bytesOf(given[place]);
+        }
+
+        int number(int place) {
+            return Integer.parseInt(given[place]);
+        }
+    }
+
+    /** A session that started: what it took, joined, and its accepted asks for output. */
+    record Session(Call start, ByteArrayOutputStream message, List<Call> asks) {}
+
+    final Map<String, Integer> agreed = new TreeMap<>();
+    final Map<String, Integer> leftOut = new TreeMap<>();
+    int differ;
+    Optional<Session> session = Optional.empty();
+    byte[] generatorKey;
+
+    /** Bytes as the file gives them: `-`, hexadecimal digits, or `*LENGTH:SEED`. */
+    static byte[] bytesOf(String field) {
+        if (!field.startsWith("*")) {
+            return field.equals("-") ? NONE : HexFormat.of().parseHex(field);
+        }
+        String[] parts = field.substring(1).split(":");
+        byte[] content = new byte[Integer.parseInt(parts[0])];
+        int seed = Integer.parseInt(parts[1]);
+        for (int i = 0; i < content.length; i++) {
+            content[i] = (byte) (seed + 7 * i + i / 256);
+        }
+        return content;
+    }
+
+    static boolean alike(String field, byte[] found) {
+        CRC32 sum = new CRC32();
+        sum.update(found);
+        return field.startsWith("%") ? field.equals(String.format("%%%d:%08x", found.length, sum.getValue())) : Arrays.equals(bytesOf(field), found);
+    }
+
+    /** One of the three functions; `first` is the name or the key. */
+    static byte[] hash(String function, byte[] first, byte[] customisation, byte[] message, int length) {
+        byte[] output = new byte[length];
+        if (function.equals("cshake256")) {
+            CSHAKEDigest digest = new CSHAKEDigest(256, first, customisation);
+            digest.update(message, 0, message.length);
+            digest.doFinal(output, 0, length);
+            return output;
+        }
+        KMAC mac = new KMAC(256, customisation);
+        mac.init(new KeyParameter(first));
+        mac.update(message, 0, message.length);
+        int written = function.equals("kmac256") ? mac.doFinal(output, 0, length) : mac.doOutput(output, 0, length); // doOutput is KMACXOF256
+        return Arrays.copyOf(output, written);
+    }
+
+    /** The authentication key, then the text combined with the key stream. */
+    static byte[] crypt(byte[] key, byte[] iv, byte[] text) {
+        byte[] stream = hash("kmacxof256", key, iv, NONE, AUTH_KEY + text.length);
+        for (int i = 0; i < text.length; i++) {
+            stream[AUTH_KEY + i] ^= text[i];
+        }
+        return stream;
+    }
+
+    static byte[] tag(byte[] crypted, byte[] ciphertext, byte[] label, int length) {
+        return hash("kmacxof256", Arrays.copyOf(crypted, AUTH_KEY), NONE, concatenate(ciphertext, label), length);
+    }
+
+    static boolean sealed(Call call) {
+        byte[] crypted = crypt(call.bytes(0), call.bytes(1), call.bytes(2));
+        byte[] ciphertext = Arrays.copyOfRange(crypted, AUTH_KEY, crypted.length);
+        return alike(call.answer[2], ciphertext) && alike(call.answer[3], tag(crypted, ciphertext, call.bytes(3), call.number(5)));
+    }
+
+    static boolean opened(Call call) {
+        byte[] ciphertext = call.bytes(2);
+        byte[] given = call.bytes(5);
+        byte[] crypted = crypt(call.bytes(0), call.bytes(1), ciphertext);
+        boolean matches = Arrays.equals(given, tag(crypted, ciphertext, call.bytes(3), given.length));
+        return call.answer[0].equals("8") ? !matches : matches && alike(call.answer[2], Arrays.copyOfRange(crypted, AUTH_KEY, crypted.length));
+    }
+
+    static byte[] encoded(byte[] string) {
+        return concatenate(string, new byte[] {(byte) string.length});
+    }
+
+    boolean seeded(Call call) {
+        generatorKey = hash("cshake256", SEED_NAME, generatorKey, concatenate(call.bytes(0), encoded(call.bytes(1))), GENERATOR_KEY);
+        return alike(call.answer[2], generatorKey);
+    }
+
+    boolean drawn(Call call) {
+        byte[] output = new byte[call.number(1)];
+        for (int at = 0; at < output.length; at += PIECE) {
+            byte[] piece = hash("cshake256", GENERATE_NAME, generatorKey, encoded(call.bytes(0)), GENERATOR_KEY + PIECE);
+            generatorKey = Arrays.copyOf(piece, GENERATOR_KEY);
+            System.arraycopy(piece, GENERATOR_KEY, output, at, Math.min(PIECE, output.length - at));
+        }
+        return alike(call.answer[2], output) && alike(call.answer[3], generatorKey);
+    }
+
+    void counted(Call call, boolean same) {
+        agreed.merge(call.entry, same ? 1 : 0, Integer::sum);
+        if (!same) {
+            differ++;
+            System.out.println("line " + call.line + ": " + call.entry + " differs from Bouncy Castle");
+        }
+    }
+
+    /** Compares a session's outputs, joined, with the one call over its pieces, joined. */
+    void compare(Session ended) {
+        String function = ended.start.entry.substring("session_".length());
+        int total = ended.asks.stream().mapToInt(ask -> ask.number(0)).sum();
+        byte[] output = hash(function, ended.start.bytes(0), ended.start.bytes(1), ended.message.toByteArray(), total);
+        int at = 0;
+        for (Call ask : ended.asks) {
+            counted(ask, alike(ask.answer[1], Arrays.copyOfRange(output, at, at + ask.number(0))));
+            at += ask.number(0);
+        }
+    }
+
+    void leaveOut(String reason) {
+        leftOut.merge(reason, 1, Integer::sum);
+    }
+
+    void read(Call call) {
+        boolean refused = !Set.of("0", "8").contains(call.answer[0]);
+        switch (call.entry) {
+            case "generator_fresh" -> generatorKey = new byte[GENERATOR_KEY];
+            case "session_cshake256", "session_kmacxof256" -> {
+                session.ifPresent(this::compare);
+                session = refused ? Optional.empty() : Optional.of(new Session(call, new ByteArrayOutputStream(), new ArrayList<>()));
+            }
+            case "take", "give", "seal", "open", "seed", "draw", "cshake256", "kmac256", "kmacxof256" -> work(refused ? "refused" : call.entry, call);
+            case "keccak_p", "plan_read", "plan_destination", "plan_row", "plan_length", "plan_write", "plan_start", "plan_step" ->
+                leaveOut(NOT_OFFERED);
+            default -> throw new IllegalArgumentException("line " + call.line + ": there is no entry " + call.entry);
+        }
+    }
+
+    void work(String kind, Call call) {
+        switch (kind) {
+            case "refused" -> leaveOut("refused");
+            case "take" -> session.ifPresentOrElse(one -> one.message.writeBytes(call.bytes(0)), () -> leaveOut(NOT_STARTED));
+            case "give" -> session.ifPresentOrElse(one -> one.asks.add(call), () -> leaveOut(NOT_STARTED));
+            case "seal" -> counted(call, sealed(call));
+            case "open" -> counted(call, opened(call));
+            case "seed" -> counted(call, seeded(call));
+            case "draw" -> counted(call, drawn(call));
+            default -> counted(call, alike(call.answer[2], hash(call.entry, call.bytes(0), call.bytes(1), call.bytes(2), call.number(3))));
+        }
+    }
+
+    public static void main(String[] arguments) throws java.io.IOException {
+        BouncyCastle reader = new BouncyCastle();
+        int line = 0;
+        for (String text : Files.readAllLines(Path.of(arguments[0]), StandardCharsets.US_ASCII)) {
+            reader.read(Call.of(++line, text));
+        }
+        reader.session.ifPresent(reader::compare);
+        reader.agreed.forEach((entry, count) -> System.out.println(entry + ": " + count + " agree"));
+        reader.leftOut.forEach((reason, count) -> System.out.println("left out: " + count + " (" + reason + ")"));
+        int agreed = reader.agreed.values().stream().mapToInt(Integer::intValue).sum();
+        System.out.println("Bouncy Castle: " + agreed + " lines agree, " + reader.differ + " differ");
+        System.exit(reader.differ == 0 && agreed > 0 ? 0 : 1);
+    }
+}

@@ -1,0 +1,36 @@
+"""Hailfeather from Python: Keccak-p[1600, 24], cSHAKE256, KMAC256 and KMACXOF256, running sessions, sealing and opening, the cSHAKE generator,
+and chute plans (the submodule `plan`), all by the proved library.
+
+A call that the library refuses raises Refusal, a ValueError with the number and its words. Bytes may be bytes, a bytearray or a memoryview; none
+may be changed by another thread while a call reads it.
+
+>>> sealed = seal(bytes(range(32)), b"IV 1", plan.write([7, 300, 0]), label=b"depot 7")
+>>> opened = open_sealed(bytes(range(32)), b"IV 1", sealed.ciphertext, sealed.tag, label=b"depot 7")
+>>> plan.destination(opened, 2)
+300
+
+The shared object is the one that the environment variable HAILFEATHER_LIBRARY names; else it is made from the repository's static library.
+"""
+
+from . import plan
+from .generator import Generator
+from .hashes import cshake256, keccak_p, kmac256, kmacxof256
+from .lending import Output
+from .refusal import Refusal
+from .sealing import Sealed, open_sealed, seal
+from .sessions import Session
+
+__all__ = [
+    "Generator",
+    "Output",
+    "Refusal",
+    "Sealed",
+    "Session",
+    "cshake256",
+    "keccak_p",
+    "kmac256",
+    "kmacxof256",
+    "open_sealed",
+    "plan",
+    "seal",
+]

@@ -1,0 +1,51 @@
+"""Loads the shared object and declares the functions of include/hailfeather.h."""
+
+from ctypes import CDLL, POINTER, c_size_t, c_uint8, c_uint32, c_uint64
+
+from . import shared_object, structs
+
+BYTES = POINTER(c_uint8)
+LENT = [BYTES, c_size_t]  # a pointer to bytes, followed by their number
+DESTINATIONS = [POINTER(c_uint32), c_size_t]
+
+FUNCTIONS = {
+    "hf_keccak_p": (None, [POINTER(c_uint64)]),
+    "hf_cshake256": (structs.Outcome, LENT * 4),
+    "hf_kmac256": (structs.Outcome, LENT * 4),
+    "hf_kmacxof256": (structs.Outcome, LENT * 4),
+    "hf_session_cshake256": (structs.Step, LENT * 2),
+    "hf_session_kmacxof256": (structs.Step, LENT * 2),
+    "hf_session_take": (structs.Step, [structs.SessionState, *LENT]),
+    "hf_session_give": (structs.Step, [structs.SessionState, *LENT]),
+    "hf_seal": (structs.Outcome, LENT * 6),
+    "hf_open": (structs.Outcome, LENT * 6),
+    "hf_generator_fresh": (structs.GeneratorState, []),
+    "hf_generator_seed": (structs.Draw, [structs.GeneratorState, *LENT * 2]),
+    "hf_generator_draw": (structs.Draw, [structs.GeneratorState, *LENT * 2]),
+    "hf_plan_read": (structs.Rows, LENT),
+    "hf_plan_destination": (structs.Destination, [*LENT, c_uint32]),
+    "hf_plan_row": (structs.RowPlace, [*LENT * 2, c_uint32]),
+    "hf_plan_length": (structs.Length, DESTINATIONS),
+    "hf_plan_write": (c_uint8, [*DESTINATIONS, *LENT]),
+    "hf_plan_start": (structs.Cursor, LENT),
+    "hf_plan_step": (structs.Walk, [*LENT, c_size_t, c_uint8]),
+}
+
+
+def loaded() -> CDLL:
+    """The shared object with every function declared."""
+    path = shared_object.found()
+    try:
+        functions = CDLL(str(path))
+    except OSError as reason:
+        raise ImportError(f"{path} is not a shared object that this Python can load ({reason}): {shared_object.ELSE}") from None
+    for name, (result, arguments) in FUNCTIONS.items():
+        try:
+            function = getattr(functions, name)
+        except AttributeError:
+            raise ImportError(f"{path} has no function {name}, so it is not Hailfeather or not of this version: {shared_object.ELSE}") from None
+        function.restype, function.argtypes = result, arguments
+    return functions
+
+
+functions = loaded()

@@ -1,0 +1,89 @@
+"""Chute plans: how many rows one has, where a chute sends its parcels, and plans written and walked.
+
+>>> written = write([7, 300, 0])
+>>> written.hex(" "), rows(written), list(walk(written))
+('03 07 ac 02 00', 3, [7, 300, 0])
+"""
+
+from ctypes import c_uint32, string_at
+from itertools import islice
+from typing import Any, Iterable, Iterator, NamedTuple, Tuple
+
+from .lending import BytesLike, lent, number_of, room_for
+from .library import functions
+from .refusal import accept
+
+PLAN_LIMIT = 65_536  # bytes: a longer plan is refused
+ROWS_LIMIT = 4_096  # rows: a plan with more is refused
+SOURCES = {1: "site", 2: "house"}
+
+
+class Row(NamedTuple):
+    """A row's bytes, the plan that they stand in (`site` or `house`), and the place of the first of them there."""
+
+    source: str
+    start: int
+    bytes: bytes
+
+
+def rows(plan: BytesLike) -> int:
+    """How many rows a plan has. Refuses with 5, 9."""
+    answer = functions.hf_plan_read(*lent("plan", plan))
+    accept("plan_read", answer.number)
+    return answer.rows
+
+
+def destination(plan: BytesLike, chute: int) -> int:
+    """The destination of a chute; chutes count from 1, and destination 0 sends the parcel round again. Refuses with 5, 9, 10.
+
+    >>> destination(bytes([3, 7, 172, 2, 0]), 2)
+    300
+    >>> destination(bytes([3, 7, 172, 2, 0]), 4)
+    Traceback (most recent call last):
+    ...
+    hailfeather.refusal.Refusal: refused 10: the plan has no such chute
+    """
+    answer = functions.hf_plan_destination(*lent("plan", plan), number_of("chute", chute))
+    accept("plan_destination", answer.number)
+    return answer.destination
+
+
+def row(site: BytesLike, house: BytesLike, chute: int) -> Row:
+    """A chute's row: in the site plan if it has that chute, else in the house plan. Refuses with 5, 9, 10.
+
+    >>> row(bytes([1, 9]), bytes([3, 7, 172, 2, 0]), 2)
+    Row(source='house', start=2, bytes=b'\\xac\\x02')
+    """
+    lent_plans = {"site": lent("site", site), "house": lent("house", house)}
+    answer = functions.hf_plan_row(*lent_plans["site"], *lent_plans["house"], number_of("chute", chute))
+    accept("plan_row", answer.number)
+    source = SOURCES[answer.source]
+    return Row(source, answer.start, string_at(*lent_plans[source])[answer.start : answer.start + answer.length])
+
+
+def write(destinations: Iterable[int]) -> bytes:
+    """The plan with these destinations, each number in the fewest groups. Refuses with 9."""
+    numbers = [number_of("a destination", number) for number in islice(destinations, ROWS_LIMIT + 1)]
+    lent_rows = (c_uint32 * len(numbers))(*numbers), len(numbers)
+    needed = functions.hf_plan_length(*lent_rows)
+    accept("plan_length", needed.number)
+    room = room_for(needed.length)
+    accept("plan_write", functions.hf_plan_write(*lent_rows, room, len(room)))
+    return bytes(room)
+
+
+def walk(plan: BytesLike) -> Iterator[int]:
+    """The destinations one after another. The plan is read whole at once: this call, not the first step, refuses with 5, 9."""
+    pointer, length = lent("plan", plan)
+    lent_plan = lent("plan", string_at(pointer, min(length, PLAN_LIMIT + 1)))  # a copy, since the plan must not change meanwhile
+    cursor = functions.hf_plan_start(*lent_plan)
+    accept("plan_start", cursor.number)
+    return steps(lent_plan, cursor.at)
+
+
+def steps(lent_plan: Tuple[Any, int], at: int) -> Iterator[int]:
+    """The destinations from a row on, to the end of a plan that was read."""
+    answer = functions.hf_plan_step(*lent_plan, at, 0)
+    while answer.number == 0:
+        yield answer.destination
+        answer = functions.hf_plan_step(*lent_plan, answer.next, 0)
