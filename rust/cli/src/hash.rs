@@ -47,7 +47,7 @@ pub const KMAC: Command = Command {
         RAW,
         OUTPUT,
     ],
-    notes: "",
+    notes: "With KMAC256 the output's length is part of what is authenticated.",
     examples: "printf 'a key' > demo.key
 printf '\\003\\007\\254\\002\\000' | hailfeather kmac --key-file demo.key --customisation 'depot 7' --length 32
 # da4237a9855bf916ed3cc62ffa9aceeb650fa815c7ee290cbb43c2418e1fb06b

@@ -76,7 +76,7 @@ pub fn of(command: &Command) -> String {
     }
     help += "\n";
     if let Some(file) = command.operands.last() {
-        help += &format!("Where {file} is left out or is -, standard input is read. ");
+        help += &format!("Where {file} is left out or is -, standard input is read.\n");
     }
     help += &format!("{notes}\n\nExamples:\n{}\n", indented(examples));
     help += "Refusals, by the number that is also the exit status:\n";
@@ -124,4 +124,26 @@ fn refusals(command: &Command) -> Vec<(u8, &'static str)> {
 
 fn words(entry: &str, number: u8) -> Option<&'static str> {
     TABLE.lines().find_map(|line| line.strip_prefix(&format!("{entry} {number} ")))
+}
+
+#[cfg(test)]
+mod tests {
+    use super::*;
+
+    #[test]
+    fn every_refusal_has_words() {
+        for command in COMMANDS {
+            for (entry, numbers) in command.refusals {
+                assert!(numbers.iter().all(|number| words(entry, *number).is_some()), "{entry} {numbers:?}");
+            }
+        }
+    }
+
+    #[test]
+    fn no_line_is_wider_than_the_repository() {
+        let helps = COMMANDS.iter().map(|command| of(command)).chain([general()]);
+        for help in helps {
+            assert!(help.lines().all(|line| line.len() <= 150 && line == line.trim_end()), "{help}");
+        }
+    }
 }

@@ -163,7 +163,7 @@ fn name(target: &Target) -> String {
     }
 }
 
-/// Writes every content to its target. No file is put in its place before all are written, and streams are served first: where one fails no file appears.
+/// Writes every content to its target. No file is put in its place before all are written, and streams come first: where one fails no file appears.
 pub fn write(contents: &[(&Target, Content)], access: Access) -> Result<(), Failure> {
     let mut prepared = Vec::new();
     for (target, content) in contents {

@@ -57,8 +57,9 @@ pub const WRITE: Command = Command {
     purpose: "make a plan of rows in text",
     operands: &["ROWS"],
     options: &[output("PLAN", "the plan; standard output if it is left out")],
-    notes: "A line with one number is a destination; a line with two is a chute and its destination, and the chute has to be the next one, from 1 on.
-A line 'rows N' may stand first and has to agree with the number of rows. Blank lines and lines that start with # are passed over.",
+    notes: "A line with one number is a destination; a line with two is a chute and its destination,
+and the chute has to be the next one, from 1 on. A line 'rows N' may stand first and has to agree with
+the number of rows. Blank lines and lines that start with # are passed over.",
     examples: "printf '7\\n300\\n0\\n' | hailfeather plan write -o depot.plan
 od -An -tx1 depot.plan
 #  03 07 ac 02 00

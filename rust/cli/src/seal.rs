@@ -13,7 +13,7 @@ const IV: Choice = required("iv", Kind::Text, "the IV; it may be seen by all, an
 const LABEL: Choice = optional(
     "label",
     Kind::Text,
-    "the label: shown unchanged by the tag like the text, but not encrypted and not in the sealed file",
+    "the label: covered by the tag like the text, but not encrypted, and not in the sealed file; none if it is left out",
 );
 
 pub const SEAL: Command = Command {
@@ -39,8 +39,8 @@ hailfeather open --key-file depot.key --iv 'depot 7, plan 1' plan.sealed | hailf
 # 300
 
 printf '\\003\\007\\254\\002\\000' > depot.plan
-hailfeather seal --key-file depot.key --iv 'depot 7, plan 2' --label 'from 6 o clock' --tag-file plan.tag depot.plan -o plan.ciphertext
-wc -c < plan.ciphertext
+hailfeather seal --key-file depot.key --iv 'depot 7, plan 2' --label 'night shift' --tag-file plan.tag depot.plan -o plan.ct
+wc -c < plan.ct
 # 5",
     refusals: &[("seal", &[2, 3, 5, 7])],
     run: seal,
