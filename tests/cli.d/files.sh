@@ -72,8 +72,6 @@ for file in $denied missing/never plan/never; do
   fails 74 "$file: .*(os error" seal --key-file key --iv x --tag-file "$file" plan -o old
 done
 fails 74 'directory' cshake plan -o .
-fails 74 'No space' cshake plan -o /dev/full
-fails 74 'No space' seal --key-file key --iv x --tag-file tag plan -o /dev/full
 status=0
 (trap '' XFSZ; ulimit -f 8; hailfeather cshake --length 100000 --raw plan -o old 2>err) || status=$?
 that 'a write that failed midway was not told' test "$status" = 74 -a "$(grep -c 'File too large' err)" = 1
@@ -82,15 +80,15 @@ that 'an error changed a file' cmp old ../old
 that 'an error left a file' test "$(ls -A)" = "$listing"
 cd ..
 
-# devices stay what they are; - is standard output
-gives /dev/null cshake plan -o /dev/null
-that '/dev/null is no device any more' test -c /dev/null
-gives plan open --key-file key --iv 'depot 7' --label 'plan 1' sealed -o -
+# what is no file is written where it stands; - is standard output. The pipe is one of this directory and never a device: a tool that goes wrong may replace
+# what -o names, and as root that would be the machine's own /dev/null
 mkfifo pipe
-cat pipe >piped &
+timeout 20 cat pipe >piped &
 gives /dev/null open --key-file key --iv 'depot 7' --label 'plan 1' sealed -o pipe
-wait
+that 'a pipe was replaced by a file' test -p pipe
+wait $! || true
 that 'wrong bytes in a pipe' cmp piped plan
+gives plan open --key-file key --iv 'depot 7' --label 'plan 1' sealed -o -
 
 # reading stops one byte past the limit
 left() {
@@ -131,6 +129,8 @@ for arguments in 'plan report plan' 'plan lookup 2 plan' 'plan write report' 'cs
   closed 74 to_full $arguments
   that 'the system says nothing' grep -q 'standard output: No space' err
 done
+closed 74 to_full seal --key-file key --iv x --tag-file untold plan
+that 'a tag is left of a ciphertext that was not written' test ! -e untold
 closed 74 to_head cshake --length $most --raw
 closed 74 to_head cshake --length $most
 closed 74 to_head draw --seed-file key --length $most
