@@ -1,0 +1,149 @@
+//! The help, made of the commands' own tables and of the library's words for its refusals.
+
+use crate::command::{Command, COMMANDS};
+use crate::options::Choice;
+
+/// One line for each refusal that an entry of the library has: the entry, the number, the words.
+const TABLE: &str = include_str!("../../../include/refusals.txt");
+
+const ABOUT: &str = "hailfeather: chute plans, sealing, cSHAKE256, KMAC256 and the cSHAKE generator, proved
+
+Usage:
+    hailfeather COMMAND [OPTIONS] [FILE]
+    hailfeather COMMAND --help
+    hailfeather --version
+";
+
+const EXAMPLE: &str = "Head office writes a plan and seals it; a depot opens and reports it:
+    (umask 077; head -c 32 /dev/urandom > depot.key)
+    printf '7\\n300\\n0\\n' | hailfeather plan write -o depot.plan
+    hailfeather seal --key-file depot.key --iv 'depot 7, plan 1' depot.plan -o plan.sealed
+    hailfeather open --key-file depot.key --iv 'depot 7, plan 1' plan.sealed | hailfeather plan report
+    # rows 3
+    # 1 7
+    # 2 300
+    # 3 0
+";
+
+const RULES: &str = "Files: where FILE is left out or is -, standard input is read. A file after -o appears whole or not at all.
+Texts: an option --X TEXT can also be given as --X-hex HEX or as --X-file FILE.
+Secrets: keys and seeds are read from files alone, since every user of the machine can see the arguments.
+
+Exit status:
+     0  done
+     2 to 10  refused by the library, with its number; nothing is written
+    64  the command line is not understood
+    65  a text that was read is malformed
+    74  a file cannot be read or written
+";
+
+/// The help of the tool.
+pub fn general() -> String {
+    let commands: String = COMMANDS
+        .iter()
+        .map(|command| format!("    {:<12} {}\n", command.name, command.purpose))
+        .collect();
+    format!("{ABOUT}\nCommands:\n{commands}\n{EXAMPLE}\n{RULES}")
+}
+
+/// The help of all commands whose names begin alike.
+pub fn group(beginning: &str) -> String {
+    let helps: Vec<String> = COMMANDS
+        .iter()
+        .filter(|command| command.name.starts_with(beginning))
+        .map(|command| of(command))
+        .collect();
+    helps.join("\n\n")
+}
+
+/// The help of one command.
+pub fn of(command: &Command) -> String {
+    let Command {
+        name,
+        purpose,
+        examples,
+        notes,
+        ..
+    } = command;
+    let mut help = format!("hailfeather {name}: {purpose}\n\nUsage:\n    {}\n", usage(command));
+    if !command.options.is_empty() {
+        help += "\nOptions:\n";
+        help += &command
+            .options
+            .iter()
+            .map(|choice| format!("    {}\n        {}\n", choice.ways().join(", "), choice.about))
+            .collect::<String>();
+    }
+    help += "\n";
+    if let Some(file) = command.operands.last() {
+        help += &format!("Where {file} is left out or is -, standard input is read.\n");
+    }
+    help += &format!("{notes}\n\nExamples:\n{}\n", indented(examples));
+    help += "Refusals, by the number that is also the exit status:\n";
+    help + &refusals(command)
+        .iter()
+        .map(|(number, words)| format!("    {number:>2}  {words}\n"))
+        .collect::<String>()
+}
+
+fn usage(command: &Command) -> String {
+    let option = |choice: &Choice| {
+        let way = choice.ways().swap_remove(0);
+        if choice.required {
+            way
+        } else {
+            format!("[{way}]")
+        }
+    };
+    let mut words = vec![format!("hailfeather {}", command.name)];
+    words.extend(command.options.iter().map(option));
+    if let Some((input, needed)) = command.operands.split_last() {
+        words.extend(needed.iter().map(|operand| operand.to_string()));
+        words.push(format!("[{input}]"));
+    }
+    words.join(" ")
+}
+
+fn indented(lines: &str) -> String {
+    lines.lines().map(|line| format!("    {line}").trim_end().to_string() + "\n").collect()
+}
+
+/// The numbers that a command can get and the words for each, in order, none twice.
+fn refusals(command: &Command) -> Vec<(u8, &'static str)> {
+    let of_entry = |(entry, numbers): &(&'static str, &'static [u8])| {
+        numbers
+            .iter()
+            .filter_map(|number| Some((*number, words(entry, *number)?)))
+            .collect::<Vec<_>>()
+    };
+    let mut refusals: Vec<(u8, &str)> = command.refusals.iter().flat_map(of_entry).collect();
+    refusals.sort_by_key(|(number, _)| *number);
+    refusals.dedup();
+    refusals
+}
+
+fn words(entry: &str, number: u8) -> Option<&'static str> {
+    TABLE.lines().find_map(|line| line.strip_prefix(&format!("{entry} {number} ")))
+}
+
+#[cfg(test)]
+mod tests {
+    use super::*;
+
+    #[test]
+    fn every_refusal_has_words() {
+        for command in COMMANDS {
+            for (entry, numbers) in command.refusals {
+                assert!(numbers.iter().all(|number| words(entry, *number).is_some()), "{entry} {numbers:?}");
+            }
+        }
+    }
+
+    #[test]
+    fn no_line_is_wider_than_the_repository() {
+        let helps = COMMANDS.iter().map(|command| of(command)).chain([general()]);
+        for help in helps {
+            assert!(help.lines().all(|line| line.len() <= 150 && line == line.trim_end()), "{help}");
+        }
+    }
+}

@@ -1,0 +1,106 @@
+//! The commands over chute plans: report, lookup and write.
+
+use crate::args::{self, Arguments};
+use crate::command::Command;
+use crate::failure::Failure;
+use crate::input::{self, Secret};
+use crate::options::{optional, output, Kind};
+use crate::output::{self, Access, Content, Target};
+use crate::rows;
+use hailfeather::{limits, plan};
+use std::ffi::OsStr;
+use std::fmt::Write;
+
+pub const REPORT: Command = Command {
+    name: "plan report",
+    purpose: "print how many rows a plan has, and each chute with its destination",
+    operands: &["PLAN"],
+    options: &[],
+    notes: "What is printed can be given to hailfeather plan write.",
+    examples: "printf '\\003\\007\\254\\002\\000' | hailfeather plan report
+# rows 3
+# 1 7
+# 2 300
+# 3 0
+
+printf '7\\n300\\n0\\n' | hailfeather plan write -o depot.plan
+hailfeather plan report depot.plan | tail -n 1
+# 3 0",
+    refusals: &[("plan_start", &[5, 9])],
+    run: report,
+};
+
+pub const LOOKUP: Command = Command {
+    name: "plan lookup",
+    purpose: "print the destination of one chute",
+    operands: &["CHUTE", "PLAN"],
+    options: &[optional(
+        "house",
+        Kind::Input("PLAN"),
+        "a house plan, asked for the chutes that PLAN, then the site plan, does not have",
+    )],
+    notes: "Chutes count from 1. With a house plan the word site or house follows, for the plan that has the chute.",
+    examples: "printf '\\003\\007\\254\\002\\000' > depot.plan
+hailfeather plan lookup 2 depot.plan
+# 300
+
+printf '9\\n' | hailfeather plan write | hailfeather plan lookup 1 --house depot.plan
+# 9 site
+printf '9\\n' | hailfeather plan write | hailfeather plan lookup 2 --house depot.plan
+# 300 house",
+    refusals: &[("plan_destination", &[5, 9, 10]), ("plan_row", &[5, 9, 10])],
+    run: lookup,
+};
+
+pub const WRITE: Command = Command {
+    name: "plan write",
+    purpose: "make a plan of rows in text",
+    operands: &["ROWS"],
+    options: &[output("PLAN", "the plan; standard output if it is left out")],
+    notes: "A line with one number is a destination; a line with two is a chute and its destination,
+and the chute has to be the next one, from 1 on. A line 'rows N' may stand first and has to agree with
+the number of rows. Blank lines and lines that start with # are passed over.",
+    examples: "printf '7\\n300\\n0\\n' | hailfeather plan write -o depot.plan
+od -An -tx1 depot.plan
+#  03 07 ac 02 00
+
+hailfeather plan report depot.plan | hailfeather plan write | cmp - depot.plan && echo the same
+# the same",
+    refusals: &[("plan_length", &[9])],
+    run: write,
+};
+
+fn read(name: &OsStr) -> Result<Secret, Failure> {
+    input::file(name, limits::PLAN)
+}
+
+fn report(arguments: &Arguments) -> Result<(), Failure> {
+    let plan = read(input::operand(arguments, 0))?;
+    let walk = plan::Walk::new(&plan)?;
+    let mut text = format!("rows {}\n", plan::rows(&plan)?);
+    for (chute, destination) in (1..).zip(walk) {
+        // Writing to a String does not fail.
+        let _ = writeln!(text, "{chute} {destination}");
+    }
+    output::text(&text)
+}
+
+fn lookup(arguments: &Arguments) -> Result<(), Failure> {
+    let chute = args::number(arguments.operand(0).unwrap_or_default(), "CHUTE")?.min(u64::from(u32::MAX)) as u32;
+    let site = read(input::operand(arguments, 1))?;
+    let Some(house) = arguments.value("house") else {
+        return output::text(&format!("{}\n", plan::destination(&site, chute)?));
+    };
+    let house = read(house)?;
+    let (plan, source) = match plan::row(&site, &house, chute)?.source {
+        plan::Source::Site => (&site, "site"),
+        plan::Source::House => (&house, "house"),
+    };
+    output::text(&format!("{} {source}\n", plan::destination(plan, chute)?))
+}
+
+fn write(arguments: &Arguments) -> Result<(), Failure> {
+    let target = Target::of(arguments, true)?;
+    let destinations = rows::read(input::operand(arguments, 0))?;
+    output::write(&[(&target, Content::Raw(&plan::to_vec(&destinations)?))], Access::Usual)
+}

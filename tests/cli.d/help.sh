@@ -1,0 +1,55 @@
+# The help: it is there for every command, its examples work as they stand, and its refusals are the library's. Sourced by tests/cli.
+# shellcheck shell=bash disable=SC2154,SC2086,SC2094,SC2103,SC2164
+
+# examples FILE: the lines of a shell among a help's examples, with what they print behind a hash sign
+examples() {
+  awk '/^(Examples|Head office.*):$/ { on = 1; next } /^[^ ]/ { on = 0 } on { sub(/^    /, ""); print }' "$1"
+}
+
+# try NAME: runs the examples of the help in the file out as one script in an empty directory, and compares what it prints
+try() {
+  examples out >all
+  grep '^# ' all | sed 's/^# //' >want
+  grep -v '^# ' all >script
+  that "$1 has too few examples" test "$(grep -c 'hailfeather' script)" -ge 2 -a -s want
+  rm -rf empty
+  mkdir empty
+  status=0
+  (cd empty && bash -euo pipefail ../script) >printed 2>err || status=$?
+  that "status $status of the examples of $1: $(head -c 300 err)" test "$status" = 0
+  that "the examples of $1 print something else" cmp printed want
+}
+
+run --version
+that 'wrong version' grep -qx 'hailfeather [0-9]*\.[0-9]*\.[0-9]*' out
+for word in --help -h; do
+  run $word
+  that "status $status of $word" test "$status" = 0 -a ! -s err
+  for command in 'plan report' 'plan lookup' 'plan write' seal open cshake kmac draw; do
+    that "$word does not tell of $command" grep -q "^    $command  *[a-z]" out
+  done
+done
+try --help
+run plan --help
+that 'plan --help has not all of its commands' test "$status" = 0 -a "$(grep -c '^Usage:' out)" = 3
+
+while IFS=: read -r command entries; do
+  run $command --help
+  that "status $status of $command --help" test "$status" = 0 -a ! -s err
+  that "$command --help has no purpose" grep -q "^hailfeather $command: [a-z]" out
+  that "$command --help has no usage" grep -q "^    hailfeather $command .*\[.*\]$" out
+  for entry in $entries; do
+    words=$(sed -n "s/^${entry%=*} ${entry#*=} //p" "$repository/include/refusals.txt")
+    that "$command --help does not have refusal $entry" grep -Eqx " +${entry#*=}  $words" out
+  done
+  try "$command --help"
+done <<'COMMANDS'
+plan report:plan_start=5 plan_start=9
+plan lookup:plan_destination=5 plan_destination=9 plan_destination=10 plan_row=5 plan_row=9 plan_row=10
+plan write:plan_length=9
+seal:seal=2 seal=3 seal=5 seal=7
+open:open=2 open=3 open=5 open=7 open=8
+cshake:session_cshake256=3 session_cshake256=4 take=5 give=6
+kmac:kmac256=2 kmac256=3 kmac256=5 kmac256=6 take=5 give=6
+draw:seed=3 seed=5 draw=3 draw=6
+COMMANDS
