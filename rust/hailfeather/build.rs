@@ -1,5 +1,5 @@
-//! Finds the static library, or has the repository's `build` script build it, and tells cargo to link it.
-//! Whatever is missing is said on standard error, which cargo shows when a build script fails.
+//! Finds the static library, or has the repository's `build` script build it, and tells cargo to link it. Whatever is missing is said on standard
+//! error, which cargo shows when a build script fails.
 
 use std::env;
 use std::fs;
@@ -21,7 +21,8 @@ fn main() {
     link(&archive);
 }
 
-/// The archive that HAILFEATHER_ARCHIVE names. It is looked for here, not by the `build` script, so that a copied package needs neither script nor bash.
+/// The archive that HAILFEATHER_ARCHIVE names. It is looked for here, not by the `build` script, so that a copied package needs neither script nor
+/// bash.
 fn named_archive(named: &Path, package: &Path) -> PathBuf {
     let archive = package.join(named);
     if !archive.is_file() {
@@ -30,7 +31,7 @@ fn named_archive(named: &Path, package: &Path) -> PathBuf {
         } else {
             format!(" (a path without / in front is taken from {})", package.display())
         };
-        fail(&format!("HAILFEATHER_ARCHIVE names {}, which is not there{place}", archive.display()));
+        fail(&format!("HAILFEATHER_ARCHIVE names {}, where there is no file{place}", archive.display()));
     }
     archive
 }

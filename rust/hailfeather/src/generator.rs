@@ -8,13 +8,13 @@ use crate::refusal::{check, Refusal, Runs};
 /// What a generator is overwritten with.
 const ZERO: ffi::hf_generator = ffi::hf_generator { key: [0; 64], seeded: 0 };
 
-/// A generator of bytes that nobody can tell without its seeds.
+/// A generator of bytes that cannot be foretold without its seeds.
 ///
-/// **It gathers no randomness: all of it comes from the seeds**, and the same seeds and draws give the same bytes. Seed it with at least 32 bytes of the
-/// operating system's randomness wherever the bytes have to be secret.
+/// **It gathers no randomness: all of it comes from the seeds**, and the same seeds and draws give the same bytes. Seed it with at least 32 bytes of
+/// the operating system's randomness wherever the bytes have to be secret.
 ///
-/// There is no `Clone` on purpose: two copies would give one stream twice. It is overwritten with zeros when it is dropped. Copies that a move or a call leaves
-/// on the stack are not.
+/// There is no `Clone` on purpose: two copies would give one stream twice. It is overwritten with zeros when it is dropped. Copies that a move or a
+/// call leaves on the stack are not.
 ///
 /// ```
 /// use hailfeather::Generator;
@@ -66,8 +66,8 @@ impl Generator {
 
     /// Fills `out`, with an additional input of at most 84 bytes.
     ///
-    /// The bytes come in pieces of 208, each of which takes 3 runs and makes a new key, so two draws of 10 bytes are not one of 20. A draw of no bytes is accepted
-    /// and leaves the key. Refuses with 1, 3, 6.
+    /// The bytes come in pieces of 208, each of which takes 3 runs and makes a new key, so two draws of 10 bytes are not one of 20. A draw of no
+    /// bytes is accepted and leaves the key. Refuses with 1, 3, 6.
     ///
     /// ```
     /// let mut generator = hailfeather::Generator::new();

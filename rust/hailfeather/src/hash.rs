@@ -18,8 +18,8 @@ pub fn keccak_p(lanes: &mut [u64; 25]) {
 
 /// cSHAKE256 (SP 800-185, 3): fills `out`.
 ///
-/// With no name and no customisation it is SHAKE256. A shorter output is the beginning of a longer one, and an output of no bytes is accepted. The name is for
-/// functions that a standard defines: leave it empty, and tell your own uses apart by the customisation. Refuses with 3, 4, 5, 6.
+/// With no name and no customisation it is SHAKE256. A shorter output is the beginning of a longer one, and an output of no bytes is accepted. The
+/// name is for functions that a standard defines: leave it empty, and tell your own uses apart by the customisation. Refuses with 3, 4, 5, 6.
 ///
 /// ```
 /// let mut out = [0; 64];
@@ -46,7 +46,8 @@ pub fn cshake256(name: &[u8], customisation: &[u8], message: &[u8], out: &mut [u
 
 /// KMAC256 (SP 800-185, 4): fills `out` with the authentication code of the message.
 ///
-/// The output's length is part of what is authenticated, so a code of 16 bytes is not the beginning of one of 32; it may not be 0. Refuses with 2, 3, 5, 6.
+/// The output's length is part of what is authenticated, so a code of 16 bytes is not the beginning of one of 32; it may not be 0. Refuses with 2,
+/// 3, 5, 6.
 ///
 /// ```
 /// let key: Vec<u8> = (0x40..0x60).collect();
@@ -74,7 +75,8 @@ pub fn kmac256(key: &[u8], customisation: &[u8], message: &[u8], out: &mut [u8])
 
 /// KMACXOF256 (SP 800-185, 4.3.1): fills `out` with as many bytes as are asked for.
 ///
-/// A shorter output is the beginning of a longer one, and an output of no bytes is accepted: for streams and for keys made of a key. Refuses with 2, 3, 5, 6.
+/// A shorter output is the beginning of a longer one, and an output of no bytes is accepted: for streams and for keys made of a key. Refuses with 2,
+/// 3, 5, 6.
 ///
 /// ```
 /// let key: Vec<u8> = (0x40..0x60).collect();

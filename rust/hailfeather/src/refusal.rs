@@ -16,6 +16,12 @@ const WORDS: &str = include_str!("../refusals.txt");
 /// assert_eq!(refusal.number(), 6);
 /// assert_eq!(refusal.to_string(), "refused 6: the output is empty or longer than 16,777,216 bytes");
 /// ```
+///
+/// Every refusal, after the entry of the library that gives it and its number:
+///
+/// ```text
+#[doc = include_str!("../refusals.txt")]
+/// ```
 #[derive(Clone, Copy, Debug, PartialEq, Eq, Hash)]
 pub struct Refusal {
     number: u8,
@@ -24,19 +30,6 @@ pub struct Refusal {
 
 impl Refusal {
     /// The refusal's number, 1 to 10. Where several apply, the smallest is given.
-    ///
-    /// | No. | Meaning |
-    /// |---|---|
-    /// | 1 | a session that is giving was asked to take; a draw from a generator that was never seeded |
-    /// | 2 | a KMAC key is too long, or a sealing key is not 32 bytes |
-    /// | 3 | a name, customisation, IV, additional input or personalisation is too long |
-    /// | 4 | cSHAKE256 was asked for with the name KMAC |
-    /// | 5 | a message, text and label together, a seed or a plan is too long |
-    /// | 6 | an output is too long, or empty for KMAC256, or not as long as the text of sealing or opening |
-    /// | 7 | a tag is too short or too long |
-    /// | 8 | the tag does not match |
-    /// | 9 | a plan is malformed, or rows to be written break its rules or do not fill the buffer exactly |
-    /// | 10 | the plan has no such chute |
     ///
     /// ```
     /// let refusal = hailfeather::plan::rows(&[1, 0x80, 0x80, 0x80, 0]).unwrap_err();
@@ -86,8 +79,8 @@ impl fmt::Display for Refusal {
 
 impl Error for Refusal {}
 
-/// The refusal is kept inside: `error.get_ref()` and `downcast_ref::<Refusal>()` give it back. Its kind is `InvalidData` where a tag does not match (8) or
-/// a plan is malformed (9), else `InvalidInput`.
+/// The refusal is kept inside: `error.get_ref()` and `downcast_ref::<Refusal>()` give it back. Its kind is `InvalidData` where a tag does not match
+/// (8) or a plan is malformed (9), else `InvalidInput`.
 impl From<Refusal> for io::Error {
     fn from(refusal: Refusal) -> io::Error {
         let kind = if matches!(refusal.number, 8 | 9) {
@@ -136,6 +129,18 @@ mod tests {
                 .unwrap();
             assert_eq!(line, format!("{entry} {number} {words}"));
             assert_eq!(check(entry, number), Err(Refusal { number, words }));
+        }
+    }
+
+    #[test]
+    fn an_io_error_keeps_the_refusal() {
+        for (entry, number, words) in lines() {
+            let error = io::Error::from(check(entry, number).unwrap_err());
+            let data = [8, 9].contains(&number);
+            assert_eq!(error.kind() == io::ErrorKind::InvalidData, data);
+            assert_eq!(error.kind() == io::ErrorKind::InvalidInput, !data);
+            assert_eq!(error.to_string(), format!("refused {number}: {words}"));
+            assert_eq!(error.get_ref().and_then(|inner| inner.downcast_ref()), Some(&Refusal { number, words }));
         }
     }
 

@@ -5,11 +5,12 @@ use crate::refusal::{counted, Refusal, Runs};
 
 /// Seals `text` under a key of 32 bytes and an IV: the ciphertext into `out`, which is as long as the text, and a tag of 16 to 64 bytes into `tag`.
 ///
-/// **Never seal twice with one key and one IV**: two texts sealed so can be combined into each other. A counter that is kept, or a plan's number, makes a good IV.
+/// **Never seal twice with one key and one IV**: whoever sees both ciphertexts learns where the texts differ, and how. A counter that is kept, or a
+/// plan's number, makes a good IV.
 ///
-/// The label is authenticated with the text and not encrypted. The tag covers ciphertext and label joined, not the place where one ends and the other begins, so
-/// give labels of one fixed length, or with their length inside, wherever texts have many lengths. A shorter tag is the beginning of a longer one. Refuses with
-/// 2, 3, 5, 6, 7.
+/// The label is authenticated with the text and not encrypted. The tag covers ciphertext and label joined, not the place where one ends and the
+/// other begins, so give labels of one fixed length, or with their length inside, wherever texts have many lengths. A shorter tag is the beginning
+/// of a longer one. Refuses with 2, 3, 5, 6, 7.
 ///
 /// ```
 /// use hailfeather::{open, seal};
@@ -47,8 +48,8 @@ pub fn seal(key: &[u8], iv: &[u8], text: &[u8], label: &[u8], out: &mut [u8], ta
 
 /// Opens what was sealed with the same key, IV and label: writes the text into `out` only if the tag is the one worked out afresh.
 ///
-/// `out` is as long as the ciphertext. The tag may be cut, down to 16 bytes: demand the length that you sealed with. The time that the comparison takes is not
-/// hidden. Refuses with 2, 3, 5, 6, 7, 8.
+/// `out` is as long as the ciphertext. The tag may be cut, down to 16 bytes: demand the length that you sealed with. The time that the comparison
+/// takes is not hidden. Refuses with 2, 3, 5, 6, 7, 8.
 ///
 /// ```
 /// use hailfeather::{open, seal};

@@ -20,11 +20,12 @@ const ZERO: ffi::hf_session = ffi::hf_session {
 
 /// A hash function that takes its message in pieces and then gives its output in portions.
 ///
-/// The bytes given, joined, are the first bytes of what the one call gives over the pieces, joined; refused calls count for nothing. The first accepted ask for
-/// output, be it for no bytes, ends the message for good. A clone goes on from the same point.
+/// The bytes given, joined, are the first bytes of what the one call gives over the pieces, joined; refused calls count for nothing. The first
+/// accepted ask for output, be it for no bytes, ends the message for good. A clone goes on from the same point.
 ///
-/// A session is also an [`io::Write`], which takes, and an [`io::Read`], which gives, so that files can be copied through it. Where `io::Read` is in scope, its
-/// own method `take` stands before [`Session::take`]: write `Session::take(&mut session, piece)` there, or `session.write_all(piece)`.
+/// A session is also an [`io::Write`], which takes, and an [`io::Read`], which gives, so that files can be copied through it. `io::Read` has a
+/// `take` of its own, for so many bytes at most: where that trait is in scope, write `Session::take(&mut session, piece)` for the one and
+/// `Read::take(&mut session, length)` for the other.
 ///
 /// It is overwritten with zeros when it is dropped. Copies that a move or a call leaves on the stack are not.
 ///

@@ -1,0 +1,9 @@
+//! The file of calls and its reader. compare/README.md of the repository has the format.
+
+mod bytes;
+mod lent;
+mod one_call;
+mod reader;
+mod states;
+
+pub use reader::{Reader, REFUSALS};

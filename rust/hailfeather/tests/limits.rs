@@ -1,0 +1,73 @@
+//! The constants of `limits`: what has just that length is accepted, and one more (of the tag's lengths also one less) is refused.
+
+use hailfeather::limits::{DESTINATION, MESSAGE, OUTPUT, PLAN, ROWS, SEALING_KEY, SEED, SHORT, STRING, TAG};
+use hailfeather::plan;
+use hailfeather::{cshake256, kmac256, kmacxof256, open, seal, Generator, Refusal, Session};
+
+/// The numbers that a call answers at the limit and one past it.
+fn sides<T>(limit: usize, call: impl Fn(&[u8]) -> Result<T, Refusal>) -> [u8; 2] {
+    let bytes = vec![0; limit + 1];
+    [&bytes[..limit], &bytes[..]].map(|argument| number(call(argument)))
+}
+
+fn number<T>(answer: Result<T, Refusal>) -> u8 {
+    answer.map_or_else(|refusal| refusal.number(), |_| 0)
+}
+
+fn seeded() -> Generator {
+    let mut generator = Generator::new();
+    generator.seed(b"a seed for a test", b"").unwrap();
+    generator
+}
+
+#[test]
+fn names_customisations_keys_and_ivs() {
+    assert_eq!(sides(STRING, |name| cshake256(name, b"", b"", &mut [0])), [0, 3]);
+    assert_eq!(sides(STRING, |customisation| cshake256(b"", customisation, b"", &mut [0])), [0, 3]);
+    assert_eq!(sides(STRING, |key| kmac256(key, b"", b"", &mut [0])), [0, 2]);
+    assert_eq!(sides(STRING, |key| kmacxof256(key, b"", b"", &mut [0])), [0, 2]);
+    assert_eq!(sides(STRING, |customisation| Session::cshake256(b"", customisation)), [0, 3]);
+    assert_eq!(sides(STRING, |key| Session::kmacxof256(key, b"")), [0, 2]);
+    assert_eq!(sides(STRING, |iv| seal(&[0; 32], iv, b"", b"", &mut [], &mut [0; 16])), [0, 3]);
+}
+
+#[test]
+fn messages_and_outputs() {
+    assert_eq!(sides(MESSAGE, |message| cshake256(b"", b"", message, &mut [0])), [0, 5]);
+    assert_eq!(sides(MESSAGE, |message| Session::cshake256(b"", b"").unwrap().take(message)), [0, 5]);
+    assert_eq!(sides(MESSAGE, |label| seal(&[0; 32], b"", b"", label, &mut [], &mut [0; 16])), [0, 5]);
+    assert_eq!(sides(OUTPUT, |out| cshake256(b"", b"", b"", &mut out.to_vec())), [0, 6]);
+    assert_eq!(sides(OUTPUT, |out| Session::cshake256(b"", b"").unwrap().give(&mut out.to_vec())), [0, 6]);
+    assert_eq!(sides(OUTPUT, |out| seeded().draw(b"", &mut out.to_vec())), [0, 6]);
+}
+
+#[test]
+fn generators() {
+    assert_eq!(sides(SEED, |seed| Generator::new().seed(seed, b"")), [0, 5]);
+    assert_eq!(sides(SHORT, |personalisation| Generator::new().seed(b"", personalisation)), [0, 3]);
+    assert_eq!(sides(SHORT, |additional| seeded().draw(additional, &mut [0])), [0, 3]);
+}
+
+#[test]
+fn sealing_keys_and_tags() {
+    assert_eq!(sides(SEALING_KEY, |key| seal(key, b"", b"", b"", &mut [], &mut [0; 16])), [0, 2]);
+    assert_eq!(sides(SEALING_KEY - 1, |key| seal(key, b"", b"", b"", &mut [], &mut [0; 16])), [2, 0]);
+    assert_eq!(sides(*TAG.end(), |tag| seal(&[0; 32], b"", b"", b"", &mut [], &mut tag.to_vec())), [0, 7]);
+    assert_eq!(
+        sides(*TAG.start() - 1, |tag| seal(&[0; 32], b"", b"", b"", &mut [], &mut tag.to_vec())),
+        [7, 0]
+    );
+    assert_eq!(sides(*TAG.end(), |tag| open(&[0; 32], b"", b"", b"", &mut [], tag)), [8, 7]);
+    assert_eq!(sides(*TAG.start() - 1, |tag| open(&[0; 32], b"", b"", b"", &mut [], tag)), [7, 8]);
+}
+
+/// No plan of 65,536 bytes is well formed, since 4,096 rows take at most 12,290: at the limit the answer is 9.
+#[test]
+fn plans() {
+    assert_eq!(sides(PLAN, plan::rows), [9, 5]);
+    assert_eq!(sides(ROWS, |rows| plan::to_vec(&vec![DESTINATION; rows.len()])), [0, 9]);
+    let longest = plan::to_vec(&[DESTINATION; ROWS]).unwrap();
+    assert_eq!((longest.len(), plan::rows(&longest)), (12_290, Ok(4_096)));
+    assert_eq!(number(plan::length(&[DESTINATION])), 0);
+    assert_eq!(number(plan::length(&[DESTINATION + 1])), 9);
+}
