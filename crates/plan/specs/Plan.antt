@@ -5,6 +5,7 @@ use mathlib.Core.List.{List, [], _∷_}
 use mathlib.Core.Bool.{cond}
 use lib.Dec.{ltb, leb}
 use lib.ListN.{length, getD}
+use Rattle.plan.specs.Limits.{maxPlan, maxRows}
 use Rattle.plan.specs.Number.{Parsed, value, bad, number}
 use Rattle.plan.specs.declared.Row.{Row}
 use Rattle.plan.specs.declared.RowRead.{RowRead}
@@ -48,10 +49,10 @@ rowsFrom zero at (b ∷ rest) = malformed at
 rowsFrom (suc n) at s = afterNumber (number at s) (λ v next rest. consRow (row v at next) (rowsFrom n next rest))
 
 abbrev pub planIn : List ℕ → Plan
-planIn s = afterNumber (number 0 s) (λ count next rest. cond (leb count 4096) (rowsFrom count next rest) (malformed 0))
+planIn s = afterNumber (number 0 s) (λ count next rest. cond (leb count maxRows) (rowsFrom count next rest) (malformed 0))
 
 unfoldable pub planOf : List ℕ → Plan
-planOf s = cond (ltb 65536 (length s)) (refused 5 0) (planIn s)
+planOf s = cond (ltb maxPlan (length s)) (refused 5 0) (planIn s)
 
 -- the row of a chute, which count from 1: all 0 where there is none
 abbrev pub noRow : Row

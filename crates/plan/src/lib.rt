@@ -6,9 +6,17 @@ pub use number::number_at;
 ghost use mathlib.Core.Path.{_≡_};
 ghost use Prim.Native.Nat.{_≤_};
 ghost use lib.ListN.{drop};
+ghost use Rattle.plan.specs.Limits.{maxRows};
 ghost use Rattle.plan.specs.Number.{number};
 ghost use Rattle.plan.specs.Plan.{rowAnswer, placeOf, rowsFrom, planOf, planAnswer};
 ghost use Rattle.plan.specs.Answers.{hasChute, summaryOf, lookupOf};
+
+// The limits of document 01, as specs/Limits.antt has them.
+pub const MAX_PLAN: usize = 65536;
+
+pub const MAX_ROWS: u32 = 4096;
+
+pub const MAX_DESTINATION: u32 = 2097151;
 
 // A row: its destination, and where its bytes start and end in the plan.
 pub struct Row {
@@ -62,7 +70,7 @@ fn malformed(place: usize) -> PlanRead
 
 // Reads the rows from a place on, `count` of them and then nothing more. The first bad row ends the reading.
 fn read_rows(plan: &[u8], first: usize, count: u32, chute: u32) -> PlanRead
-    requires { ⌜ count ≤ 4096 ⌝ }
+    requires { ⌜ count ≤ maxRows ⌝ }
     ensures { λ r. ⌜ r ≡ planAnswer chute (rowsFrom count first (drop first (now (plan .entry)))) ⌝ }
 {
     let mut found = Row {
@@ -93,7 +101,7 @@ fn read_rows(plan: &[u8], first: usize, count: u32, chute: u32) -> PlanRead
 pub fn read_whole(plan: &[u8], chute: u32) -> PlanRead
     ensures { λ r. ⌜ r ≡ planAnswer chute (planOf (now (plan .entry))) ⌝ }
 {
-    if 65536 < plan.len() {
+    if MAX_PLAN < plan.len() {
         return PlanRead::Refused {
             refusal: 5,
             place: 0,
@@ -101,7 +109,7 @@ pub fn read_whole(plan: &[u8], chute: u32) -> PlanRead
     }
     match number_at(plan, 0) {
         Number::Value { value, next } => {
-            if 4096 < value {
+            if MAX_ROWS < value {
                 return malformed(0);
             }
             read_rows(plan, next, value, chute)

@@ -1,4 +1,4 @@
--- Laws of a walk, over every number of asks: the (k + 1)th ask answers as the lookup of chute k + 1, whatever the plan is, and the destinations handed
+-- Laws of a walk, over every number of asks: the (k + 1)th ask answers as the lookup of chute k + 1, whatever the plan is, and the destinations walked
 -- out are the rows in order.
 use mathlib.Core.Path.{_≡_, refl, sym, ap, _∙_}
 use mathlib.Core.List.{List, [], _∷_, map}
@@ -25,17 +25,17 @@ after s at refusal zero = at
 after s at refusal (suc k) = after s (stepOf s at refusal .next) refusal k
 
 -- the (k + 1)th answer
-abbrev pub told : Step → Lookup
-told a = record { refusal = a .refusal; destination = a .destination }
+abbrev pub stepLookup : Step → Lookup
+stepLookup a = record { refusal = a .refusal; destination = a .destination }
 
 abbrev pub answer : List ℕ → ℕ → ℕ → ℕ → Lookup
-answer s at refusal k = told (stepOf s (after s at refusal k) refusal)
+answer s at refusal k = stepLookup (stepOf s (after s at refusal k) refusal)
 
 -- the destinations that k asks hand out
-pub handed : List ℕ → ℕ → ℕ → ℕ → List ℕ
-handed s at refusal zero = []
-handed s at refusal (suc k) =
-    cond (eqb (stepOf s at refusal .refusal) 0) (stepOf s at refusal .destination ∷ handed s (stepOf s at refusal .next) refusal k) (handed s (stepOf s at refusal .next) refusal k)
+pub walked : List ℕ → ℕ → ℕ → ℕ → List ℕ
+walked s at refusal zero = []
+walked s at refusal (suc k) =
+    cond (eqb (stepOf s at refusal .refusal) 0) (stepOf s at refusal .destination ∷ walked s (stepOf s at refusal .next) refusal k) (walked s (stepOf s at refusal .next) refusal k)
 
 abbrev destinations : List Row → List ℕ
 destinations l = map (λ (r : Row). r .destination) l
@@ -51,15 +51,15 @@ rowLookup k l = cond (leb (suc k) (length l)) (record { refusal = 0; destination
 module _ (s : List ℕ) where
   -- what k asks from a place do, by the rows that are left
   abbrev Walks : ℕ → Plan → Type 0
-  Walks at (rows l) = (k : ℕ) → (answer s at 0 k ≡ rowLookup k l) × (handed s at 0 k ≡ take k (destinations l))
+  Walks at (rows l) = (k : ℕ) → (answer s at 0 k ≡ rowLookup k l) × (walked s at 0 k ≡ take k (destinations l))
   Walks at (refused n place) = Unit
 
   end-stays : (at : ℕ) → drop at s ≡ [] → stepOf s at 0 ≡ stay 10 at
   unfolding stepOf groups
   end-stays at e = rw e
 
-  walks-end : (at : ℕ) → drop at s ≡ [] → (k : ℕ) → (answer s at 0 k ≡ rowLookup k []) × (handed s at 0 k ≡ take k (destinations []))
-  unfolding after handed
+  walks-end : (at : ℕ) → drop at s ≡ [] → (k : ℕ) → (answer s at 0 k ≡ rowLookup k []) × (walked s at 0 k ≡ take k (destinations []))
+  unfolding after walked
   walks-end at e zero = (rw (end-stays at e), refl)
   walks-end at e (suc k) =
       let ih = walks-end at e k in
@@ -74,10 +74,10 @@ module _ (s : List ℕ) where
   row-read at v next rest e = rw e
 
   walks-row : (at v next : ℕ) (rest : List ℕ) (p : Plan) → number at (drop at s) ≡ value v next rest → Walks next p → Walks at (consRow (row v at next) p)
-  unfolding after handed
+  unfolding after walked
   walks-row at v next rest (rows l) e ih = go
     where
-      go : (k : ℕ) → (answer s at 0 k ≡ rowLookup k (row v at next ∷ l)) × (handed s at 0 k ≡ take k (v ∷ destinations l))
+      go : (k : ℕ) → (answer s at 0 k ≡ rowLookup k (row v at next ∷ l)) × (walked s at 0 k ≡ take k (v ∷ destinations l))
       go zero = (rw (row-read at v next rest e, leb·suc-suc, leb·zero), refl)
       go (suc k) = (rw (row-read at v next rest e, leb·suc-suc) (ih k .0), rw (row-read at v next rest e) (ap (λ (t : List ℕ). v ∷ t) (ih k .1)))
   walks-row at v next rest (refused n place) e ih = tt
@@ -117,8 +117,8 @@ module _ (s : List ℕ) where
   unfolding stepOf
   refused-stays at n h = let z : n ≡ 0 → ⊥ = λ e. omega arith in rw (ne-eqb _ _ z)
 
-  refused-asks : (at n : ℕ) → 1 ≤ n → (k : ℕ) → (answer s at n k ≡ noDestination n) × (handed s at n k ≡ [])
-  unfolding after handed
+  refused-asks : (at n : ℕ) → 1 ≤ n → (k : ℕ) → (answer s at n k ≡ noDestination n) × (walked s at n k ≡ [])
+  unfolding after walked
   refused-asks at n h zero = (rw (refused-stays at n h), refl)
   refused-asks at n h (suc k) =
       let z : n ≡ 0 → ⊥ = λ e. omega arith in
@@ -132,7 +132,7 @@ module _ (s : List ℕ) (k : ℕ) where
   start-refusal (bad place) n = refl
 
   abbrev Asked : Plan → Cursor → Type 0
-  Asked p c = (answer s (c .at) (c .refusal) k ≡ lookup (suc k) (planAnswer (suc k) p)) × (handed s (c .at) (c .refusal) k ≡ take k (destinationsOf p))
+  Asked p c = (answer s (c .at) (c .refusal) k ≡ lookup (suc k) (planAnswer (suc k) p)) × (walked s (c .at) (c .refusal) k ≡ take k (destinationsOf p))
 
   take-none : (n : ℕ) → [] ≡ take {A = ℕ} n []
   take-none zero = refl
@@ -156,5 +156,5 @@ module _ (s : List ℕ) (k : ℕ) where
   ask-nth = asks .0
 
   -- k asks hand out the first k destinations of the plan's rows, in order
-  pub handed-rows : handed s (startOf s .at) (startOf s .refusal) k ≡ take k (destinationsOf (planOf s))
-  handed-rows = asks .1
+  pub walked-rows : walked s (startOf s .at) (startOf s .refusal) k ≡ take k (destinationsOf (planOf s))
+  walked-rows = asks .1

@@ -5,6 +5,7 @@ use mathlib.Core.List.{List, [], _∷_, _++_}
 use mathlib.Core.Bool.{Bool, true, cond, _&&_}
 use lib.Dec.{ltb, leb, eqb}
 use lib.ListN.{length}
+use Rattle.plan.specs.Limits.{maxRows, maxDestination}
 use Rattle.plan_write.specs.declared.PlanLength.{PlanLength}
 
 -- the fewest groups of a number that takes at most `more` + 1
@@ -25,11 +26,11 @@ writtenPlan l = writtenNumber (length l) ++ writtenRows l
 -- every destination fits three groups
 unfoldable pub rowsAllowed : List ℕ → Bool
 rowsAllowed [] = true
-rowsAllowed (v ∷ l) = leb v 2097151 && rowsAllowed l
+rowsAllowed (v ∷ l) = leb v maxDestination && rowsAllowed l
 
 -- the plan's rules: at most 4,096 rows, each of which fits
 unfoldable pub allowed : List ℕ → Bool
-allowed l = leb (length l) 4096 && rowsAllowed l
+allowed l = leb (length l) maxRows && rowsAllowed l
 
 -- the length of a plan: 0 and the length, or 9 and 0
 abbrev pub lengthIs : ℕ → PlanLength

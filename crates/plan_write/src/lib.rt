@@ -5,6 +5,8 @@ ghost use lib.ListN.{length};
 ghost use lib.Seq.{sets};
 ghost use Rattle.plan_write.specs.Write.{writtenNumber, writtenRows, rowsAllowed, lengthOf, writeRefusal, writtenOf};
 ghost use Rattle.plan_write.specs.Room.{NumberRoom, RowsRoom};
+use plan::MAX_DESTINATION;
+use plan::MAX_ROWS;
 
 // How many bytes a plan takes: the refusal, or 0 and the length.
 pub struct PlanLength {
@@ -30,7 +32,7 @@ fn group_count(v: u32) -> usize
 pub fn plan_length(rows: &[u32]) -> PlanLength
     ensures { λ r. ⌜ r ≡ lengthOf (now (rows .entry)) ⌝ }
 {
-    if 4096 < rows.len() {
+    if (MAX_ROWS as usize) < rows.len() {
         return PlanLength {
             refusal: 9,
             length: 0,
@@ -40,7 +42,7 @@ pub fn plan_length(rows: &[u32]) -> PlanLength
     let mut i: usize = 0;
     while i < rows.len() {
         let v = rows[i];
-        if 2097151 < v {
+        if MAX_DESTINATION < v {
             return PlanLength {
                 refusal: 9,
                 length: 0,

@@ -18,6 +18,9 @@ Inv-loop rows n₀ i₀ n i = (i ≤ length rows) × ((n ≤ 3 + 3 * i) × (leng
 abbrev μ-loop : tie.MeasureT-loop
 μ-loop rows n₀ i₀ n i = length rows - i
 
+cast-if1 : tie.Need-cast-if1 Inv-loop μ-loop
+cast-if1 c = search needs
+
 returns : tie.Need-returns Inv-loop μ-loop
 returns c = length-many _ (c .if1 .taken)
 
@@ -75,6 +78,7 @@ plan-length-spec =
     (tie.spec
     Inv-loop
     μ-loop
+    cast-if1
     returns
     cast-group-count
     group-count-requires
