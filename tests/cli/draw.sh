@@ -1,4 +1,4 @@
-# Drawing: answers of the reference, refusals, and both sides of the limits. Sourced by tests/cli.
+# Drawing: answers of the reference, refusals, and both sides of the limits. Sourced by tests/cli/run.
 # shellcheck shell=bash disable=SC2154,SC2086,SC2094,SC2103,SC2164
 
 # drawn SEED PERSONALISATION ADDITIONAL LENGTH: the reference's draw, the first three in Python

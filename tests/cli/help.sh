@@ -1,4 +1,4 @@
-# The help: it is there for every command, its examples work as they stand, and its refusals are the library's. Sourced by tests/cli.
+# The help: it is there for every command, its examples work as they stand, and its refusals are the library's. Sourced by tests/cli/run.
 # shellcheck shell=bash disable=SC2154,SC2086,SC2094,SC2103,SC2164
 
 # examples FILE: the lines of a shell among a help's examples, with what they print behind a hash sign

@@ -1,4 +1,4 @@
-# cSHAKE256, KMAC256 and KMACXOF256: answers of the reference and OpenSSL, refusals, and both sides of the limits. Sourced by tests/cli.
+# cSHAKE256, KMAC256 and KMACXOF256: answers of the reference and OpenSSL, refusals, and both sides of the limits. Sourced by tests/cli/run.
 # shellcheck shell=bash disable=SC2154,SC2086,SC2094,SC2103,SC2164
 
 # cshake beside the reference, as digits and as bytes, from a file and from standard input

@@ -1,4 +1,4 @@
-# Sealed files that are damaged or opened with something else, and tags in files of their own. Sourced by tests/cli.
+# Sealed files that are damaged or opened with something else, and tags in files of their own. Sourced by tests/cli/run.
 # shellcheck shell=bash disable=SC2154,SC2086,SC2094,SC2103,SC2164
 
 hailfeather seal --key-file key --iv 'depot 7' --label 'plan 1' plan -o sealed

@@ -1,4 +1,4 @@
-# Usage, secrets, and files that appear whole or not at all. Sourced by tests/cli.
+# Usage, secrets, and files that appear whole or not at all. Sourced by tests/cli/run.
 # shellcheck shell=bash disable=SC2154,SC2086,SC2094,SC2103,SC2164
 
 # keys and seeds are never arguments, and what was typed is not shown

@@ -1,4 +1,4 @@
-# Plans: report, lookup and write. Sourced by tests/cli.
+# Plans: report, lookup and write. Sourced by tests/cli/run.
 # shellcheck shell=bash disable=SC2154,SC2086,SC2094,SC2103,SC2164
 
 # report, from a file, from standard input and from -

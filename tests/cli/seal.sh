@@ -1,4 +1,4 @@
-# Sealing and opening: answers of the reference, forms of every option, refusals, and both sides of the limits. Sourced by tests/cli.
+# Sealing and opening: answers of the reference, forms of every option, refusals, and both sides of the limits. Sourced by tests/cli/run.
 # shellcheck shell=bash disable=SC2154,SC2086,SC2094,SC2103,SC2164
 
 # seal and open, beside the reference, with texts around the blocks' ends, and every length of tag at the limits
