@@ -16,6 +16,8 @@ const LABEL: Choice = optional(
     "the label: covered by the tag like the text, but not encrypted, and not in the sealed file; none if it is left out",
 );
 
+const TAG_LENGTH: Choice = optional("tag-length", Kind::Number, "the tag's length in bytes, 16 to 64; 32 if it is left out");
+
 pub const SEAL: Command = Command {
     name: "seal",
     purpose: "encrypt a text, and make the tag by which any change is found",
@@ -24,7 +26,7 @@ pub const SEAL: Command = Command {
         KEY,
         IV,
         LABEL,
-        optional("tag-length", Kind::Number, "the tag's length in bytes, 16 to 64; 32 if it is left out"),
+        TAG_LENGTH,
         optional(
             "tag-file",
             Kind::Output("FILE"),
@@ -54,7 +56,7 @@ pub const OPEN: Command = Command {
         KEY,
         IV,
         LABEL,
-        optional("tag-length", Kind::Number, "the tag's length in bytes, 16 to 64; 32 if it is left out"),
+        TAG_LENGTH,
         optional(
             "tag-file",
             Kind::Input("FILE"),
