@@ -28,20 +28,7 @@ pub fn keccak_p(lanes: &mut [u64; 25]) {
 /// # Ok::<(), hailfeather::Refusal>(())
 /// ```
 pub fn cshake256(name: &[u8], customisation: &[u8], message: &[u8], out: &mut [u8]) -> Result<Runs, Refusal> {
-    // SAFETY: each pointer comes from a slice with its length; a slice's pointer is never null, and `out` overlaps nothing.
-    let outcome = unsafe {
-        ffi::hf_cshake256(
-            name.as_ptr(),
-            name.len(),
-            customisation.as_ptr(),
-            customisation.len(),
-            message.as_ptr(),
-            message.len(),
-            out.as_mut_ptr(),
-            out.len(),
-        )
-    };
-    counted("cshake256", outcome)
+    one_call("cshake256", ffi::hf_cshake256, name, customisation, message, out)
 }
 
 /// KMAC256 (SP 800-185, 4): fills `out` with the authentication code of the message.
@@ -57,20 +44,7 @@ pub fn cshake256(name: &[u8], customisation: &[u8], message: &[u8], out: &mut [u
 /// # Ok::<(), hailfeather::Refusal>(())
 /// ```
 pub fn kmac256(key: &[u8], customisation: &[u8], message: &[u8], out: &mut [u8]) -> Result<Runs, Refusal> {
-    // SAFETY: as in `cshake256`.
-    let outcome = unsafe {
-        ffi::hf_kmac256(
-            key.as_ptr(),
-            key.len(),
-            customisation.as_ptr(),
-            customisation.len(),
-            message.as_ptr(),
-            message.len(),
-            out.as_mut_ptr(),
-            out.len(),
-        )
-    };
-    counted("kmac256", outcome)
+    one_call("kmac256", ffi::hf_kmac256, key, customisation, message, out)
 }
 
 /// KMACXOF256 (SP 800-185, 4.3.1): fills `out` with as many bytes as are asked for.
@@ -90,11 +64,18 @@ pub fn kmac256(key: &[u8], customisation: &[u8], message: &[u8], out: &mut [u8])
 /// # Ok::<(), hailfeather::Refusal>(())
 /// ```
 pub fn kmacxof256(key: &[u8], customisation: &[u8], message: &[u8], out: &mut [u8]) -> Result<Runs, Refusal> {
-    // SAFETY: as in `cshake256`.
+    one_call("kmacxof256", ffi::hf_kmacxof256, key, customisation, message, out)
+}
+
+/// An entry of the library that takes a name or a key, a customisation and a message.
+type Entry = unsafe extern "C" fn(*const u8, usize, *const u8, usize, *const u8, usize, *mut u8, usize) -> ffi::hf_outcome;
+
+fn one_call(name: &str, entry: Entry, first: &[u8], customisation: &[u8], message: &[u8], out: &mut [u8]) -> Result<Runs, Refusal> {
+    // SAFETY: each pointer comes from a slice with its length, a slice's pointer is never null, and `out` overlaps nothing.
     let outcome = unsafe {
-        ffi::hf_kmacxof256(
-            key.as_ptr(),
-            key.len(),
+        entry(
+            first.as_ptr(),
+            first.len(),
             customisation.as_ptr(),
             customisation.len(),
             message.as_ptr(),
@@ -103,5 +84,5 @@ pub fn kmacxof256(key: &[u8], customisation: &[u8], message: &[u8], out: &mut [u
             out.len(),
         )
     };
-    counted("kmacxof256", outcome)
+    counted(name, outcome)
 }
