@@ -6,14 +6,12 @@
 import re
 import sys
 
-OURS, OPENSSL, PORTABLE = range(3)
-MIB = 1 << 20
+OURS, OPENSSL, PORTABLE, ONE_CALL = range(4)
 HEADINGS = [
     ("what", "size", "ours:", "ours:", "to OpenSSL's", "", "to portable C's", "", "to one call of"),
     ("", "", "ns", "instructions", "speed", "instr.", "speed", "instr.", "KMACXOF256"),
 ]
 WIDTHS = [29, 9, 12, 14, 14, 9, 17, 9, 16]
-COMPARED_WITH_ONE_CALL = ("session", "seal", "open")
 
 
 def counts(paths):
@@ -30,7 +28,7 @@ def counts(paths):
 
 
 def times(path):
-    """{(name, size): nanoseconds of each worker, 0 where it has no such function}, in the order measured."""
+    """{(name, size): nanoseconds of each worker and of one call of KMACXOF256, 0 where there is none}, in the order measured."""
     with open(path, encoding="ascii") as lines:
         fields = [line.rstrip("\n").split(";") for line in lines]
     return {(name, int(size)): [float(ns) for ns in measured] for name, size, *measured in fields}
@@ -43,17 +41,13 @@ def ratio(theirs, ours):
 def row(key, measured, counted):
     """The fields of one line; a ratio above 1 means that ours takes less."""
     name, size = key
-    ns, instructions = measured[key], [counted.get((*key, worker), 0) for worker in range(3)]
-    one_call = ""
-    if name.startswith(COMPARED_WITH_ONE_CALL):
-        as_long = MIB if name.startswith("session") else size
-        one_call = ratio(measured["KMACXOF256", as_long][OURS], ns[OURS])
+    ns, instructions = measured[key], [counted.get((*key, worker), 0) for worker in (OURS, OPENSSL, PORTABLE)]
     compared = [
         field
         for worker in (OPENSSL, PORTABLE)
         for field in (ratio(ns[worker], ns[OURS]), ratio(instructions[worker], instructions[OURS]))
     ]
-    return [name, f"{size:,}", f"{ns[OURS]:,.0f}", f"{instructions[OURS]:,}", *compared, one_call]
+    return [name, f"{size:,}", f"{ns[OURS]:,.0f}", f"{instructions[OURS]:,}", *compared, ratio(ns[ONE_CALL], ns[OURS])]
 
 
 def line(fields):

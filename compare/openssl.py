@@ -2,11 +2,12 @@
 
     python3 compare/openssl.py FILE [MOST]
 
-cSHAKE256 without name and customisation is SHAKE256, and all such lines go to hashlib. KMAC256 and KMACXOF256 go to OpenSSL 3, at most MOST of
-them (400 unless given), evenly chosen over the file but with every message of 1 MiB or more. Prints how many were compared and how many lie outside
-OpenSSL's limits; exits with 1 on any difference, or where a function has no line to compare.
+cSHAKE256 without name and customisation is SHAKE256, and all such lines go to hashlib and to Python's own implementation. KMAC256 and KMACXOF256 go
+to OpenSSL 3, at most MOST of them (400 unless given), evenly chosen over the file but with every message of 1 MiB or more. Prints how many were
+compared and how many lie outside OpenSSL's limits; exits with 1 on any difference, or where a function has no line to compare.
 """
 
+import _sha3
 import hashlib
 import shutil
 import subprocess
@@ -17,6 +18,8 @@ from typing import Any, Dict, List
 
 from callfile import Call, agrees, calls
 
+# hashlib's SHAKE256 is OpenSSL's where Python is built with it; _sha3 has Python's own.
+SHAKES = {"hashlib's SHAKE256": hashlib.shake_256, "Python's own SHAKE256": _sha3.shake_256}
 XOF = {"kmac256": 0, "kmacxof256": 1}
 KEYS = range(4, 513)  # the lengths that OpenSSL 3.0 takes
 CUSTOMISATIONS = range(0, 513)
@@ -35,11 +38,6 @@ def chosen(found: List[Call], most: int) -> List[Call]:
     short = [call for call in found if len(call.given.message) < LONG]
     wanted = min(len(short), max(0, most - len(long)))
     return long + [short[place * len(short) // wanted] for place in range(wanted)]
-
-
-def shake256(given: Any) -> bytes:
-    """By hashlib."""
-    return hashlib.shake_256(given.message).digest(given.length)
 
 
 def mac(call: Call) -> bytes:
@@ -81,7 +79,9 @@ def main(path: str, most: int) -> int:
                 outside[call.entry] += 1
     if not (plain and all(keyed.values())):
         raise ValueError(f"{path} lacks calls of SHAKE256, KMAC256 or KMACXOF256 to compare")
-    differ = compared("hashlib's SHAKE256", ((call, shake256(call.given)) for call in plain))
+    differ = 0
+    for title, function in SHAKES.items():
+        differ += compared(title, ((call, function(call.given.message).digest(call.given.length)) for call in plain))
     within_limits = sorted((call for found in keyed.values() for call in found), key=lambda call: call.line)
     picked = chosen(within_limits, most)
     for entry in XOF:

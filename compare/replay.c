@@ -1,12 +1,13 @@
 /* Calls the library for each line of a file of calls (compare/README.md) and compares all that a call leaves: its answer and every lent byte.
-   replay FILE [EDGE]   EDGE canary bytes on both sides of every lent buffer, 64 unless given */
+   replay FILE canaries|own|guarded   how buffers are lent (replay.h) */
 #include <stdio.h>
 #include <stdlib.h>
 #include <string.h>
 
 #include "replay.h"
 
-size_t edge = 64;
+manner lending;
+static const char *const manners[] = {[CANARIES] = "canaries", [OWN] = "own", [GUARDED] = "guarded"};
 
 static const struct {
     const char *entry;
@@ -49,13 +50,13 @@ static bool replayed(const call *line)
 
 int main(int argc, char **argv)
 {
-    FILE *file = argc == 2 || argc == 3 ? fopen(argv[1], "r") : NULL;
-    if (file == NULL) {
-        fprintf(stderr, "usage: replay FILE [EDGE], with a file of calls that can be read\n");
+    FILE *file = argc == 3 ? fopen(argv[1], "r") : NULL;
+    while (file != NULL && lending <= GUARDED && strcmp(argv[2], manners[lending]) != 0)
+        lending++;
+    if (file == NULL || lending > GUARDED) {
+        fprintf(stderr, "usage: replay FILE canaries|own|guarded, with a file of calls that can be read\n");
         return 2;
     }
-    if (argc == 3)
-        edge = (size_t)strtoul(argv[2], NULL, 10);
     char *text = NULL;
     size_t room = 0;
     long lines = 0, wrong = 0;
@@ -71,6 +72,6 @@ int main(int argc, char **argv)
     fclose(file);
     for (int i = 0; i < ENTRIES; i++)
         printf("%s %ld%s", entries[i].entry, counts[i], i + 1 < ENTRIES ? ", " : "\n");
-    printf("from C, %zu canary bytes on each side: %ld calls, %ld of them answered otherwise\n", edge, lines, wrong);
+    printf("from C, buffers lent %s: %ld calls, %ld of them answered otherwise\n", manners[lending], lines, wrong);
     return lines > 0 && wrong == 0 ? 0 : 1;
 }

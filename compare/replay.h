@@ -15,13 +15,15 @@ typedef struct {
     int count;
 } call;
 
-/* A buffer of its own allocation, with EDGE canary bytes on both sides of what is lent; EDGE is 0 for a memory checker, which then sees
-   every access past the lent bytes. */
+/* How a buffer is lent: between canary bytes, which show what was written past it; in an allocation of its own, for valgrind; or ending where a page
+   begins that may not be touched, so that reading past it ends the program too. */
+typedef enum { CANARIES, OWN, GUARDED } manner;
+extern manner lending;
+
 typedef struct {
     uint8_t *whole, *bytes;
-    size_t length;
+    size_t length, edge; /* edge: the canary bytes on each side */
 } buffer;
-extern size_t edge;
 
 buffer lend(size_t length);                               /* full of canaries */
 buffer lend_bytes(const char *field);                     /* with the bytes that a field names: to be read */

@@ -2,14 +2,34 @@
 #include <stdio.h>
 #include <stdlib.h>
 #include <string.h>
+#include <sys/mman.h>
+#include <unistd.h>
 
 #include "replay.h"
 
 enum { CANARY = 0xA5 };
 
+/* The pages that hold so many bytes and the page after them. */
+static size_t pages(size_t length)
+{
+    size_t page = (size_t)sysconf(_SC_PAGESIZE);
+    return (length + page - 1) / page * page + page;
+}
+
+/* Memory that ends where a page begins that may not be touched. */
+static uint8_t *guarded(size_t length)
+{
+    size_t page = (size_t)sysconf(_SC_PAGESIZE), all = pages(length);
+    uint8_t *from = mmap(NULL, all, PROT_READ | PROT_WRITE, MAP_PRIVATE | MAP_ANONYMOUS, -1, 0);
+    if (from == MAP_FAILED || mprotect(from + all - page, page, PROT_NONE) != 0)
+        return NULL;
+    return from + all - page - length;
+}
+
 static buffer allocated(size_t length)
 {
-    buffer lent = {malloc(edge + length + edge), NULL, length};
+    size_t edge = lending == CANARIES ? 64 : 0;
+    buffer lent = {lending == GUARDED ? guarded(length) : malloc(edge + length + edge), NULL, length, edge};
     if (lent.whole == NULL) {
         fprintf(stderr, "replay: no memory for %zu bytes\n", length);
         exit(3);
@@ -69,9 +89,9 @@ static bool all_canaries(const uint8_t *from, size_t length)
     return true;
 }
 
-bool edges_stand(const buffer *lent) { return all_canaries(lent->whole, edge) && all_canaries(lent->bytes + lent->length, edge); }
+bool edges_stand(const buffer *lent) { return all_canaries(lent->whole, lent->edge) && all_canaries(lent->bytes + lent->length, lent->edge); }
 
-bool untouched(const buffer *lent) { return all_canaries(lent->whole, edge + lent->length + edge); }
+bool untouched(const buffer *lent) { return all_canaries(lent->whole, lent->edge + lent->length + lent->edge); }
 
 bool still(const buffer *lent, const char *field)
 {
@@ -107,6 +127,9 @@ bool holds(const buffer *lent, const char *field)
 
 void give_back(buffer *lent)
 {
-    free(lent->whole);
-    *lent = (buffer){NULL, NULL, 0};
+    if (lending == GUARDED && lent->whole != NULL)
+        munmap((uint8_t *)((uintptr_t)lent->whole / (uintptr_t)sysconf(_SC_PAGESIZE) * (uintptr_t)sysconf(_SC_PAGESIZE)), pages(lent->length));
+    else
+        free(lent->whole);
+    *lent = (buffer){NULL, NULL, 0, 0};
 }

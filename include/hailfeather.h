@@ -26,6 +26,8 @@
  * On a refusal every lent buffer is as it was before, a session or a generator is handed back as it was passed in, and a count, a destination, a length and
  * a number of rows are 0. So a return value may be put in place of the old one whatever its number is. The one exception is a session that could not
  * start: it is handed back giving, with nothing to give.
+ *
+ * Not promised: that the time a call takes is independent of secrets (tags are compared up to the first byte that differs).
  */
 #ifndef HAILFEATHER_H
 #define HAILFEATHER_H
@@ -38,7 +40,6 @@ extern "C" {
 #endif
 
 /* ---- Keccak-p, cSHAKE256, KMAC256, KMACXOF256 in one call (FIPS 202, SP 800-185) ---- */
-
 typedef struct {
     size_t runs; /* the permutations that the call takes by its definition; 0 on a refusal */
     uint8_t number;
@@ -64,7 +65,6 @@ hf_outcome hf_kmacxof256(const uint8_t *key, size_t key_length, const uint8_t *c
 /* ---- Running sessions over cSHAKE256 and KMACXOF256 ----
  * A session takes the message in pieces and then gives the output in portions. The bytes given, joined, are the first bytes of what the one call gives
  * over the pieces, joined; refused calls count for nothing. The first accepted ask for output, be it for no bytes, ends the message for good. */
-
 typedef struct {
     uint64_t lanes[25]; /* the sponge's lanes */
     size_t taken;       /* bytes of the message so far */
@@ -81,8 +81,9 @@ typedef struct {
     uint8_t number;
 } hf_step;
 
-/* Start a session of cSHAKE256 (refuses with 3, 4) or of KMACXOF256 (refuses with 2, 3). */
+/* Starts a session of cSHAKE256. Refuses with 3, 4. */
 hf_step hf_session_cshake256(const uint8_t *name, size_t name_length, const uint8_t *customisation, size_t customisation_length);
+/* Starts a session of KMACXOF256. Refuses with 2, 3. */
 hf_step hf_session_kmacxof256(const uint8_t *key, size_t key_length, const uint8_t *customisation, size_t customisation_length);
 /* Takes a piece of the message. An empty piece changes nothing. Refuses with 1, 5. */
 hf_step hf_session_take(hf_session session, const uint8_t *piece, size_t piece_length);
@@ -104,7 +105,6 @@ hf_outcome hf_open(const uint8_t *key, size_t key_length, const uint8_t *iv, siz
                    const uint8_t *label, size_t label_length, uint8_t *out, size_t out_length, const uint8_t *tag, size_t tag_length);
 
 /* ---- The cSHAKE generator ---- It gathers no randomness: all of it comes from the seeds. */
-
 typedef struct {
     uint8_t key[64]; /* secret; all zero before the first seeding */
     uint8_t seeded;  /* 0: never seeded; 1 (or any other number): seeded */
@@ -118,7 +118,6 @@ typedef struct {
 
 /* A generator that was never seeded. */
 hf_generator hf_generator_fresh(void);
-
 /* Makes a new key of the old one, the seed and the personalisation (at most 84 bytes). It may be done again at any time; an empty seed is accepted and
    counts as a seeding. Refuses with 3, 5. */
 hf_draw hf_generator_seed(hf_generator generator, const uint8_t *seed, size_t seed_length, const uint8_t *personalisation, size_t personalisation_length);
@@ -132,7 +131,6 @@ hf_draw hf_generator_draw(hf_generator generator, const uint8_t *additional, siz
  * lowest group first, with the top bit of a byte set when another follows: 0 to 2,097,151. Chutes count from 1; destination 0 sends the parcel round again.
  * The plan 03 07 AC 02 00 has three rows, with destinations 7, 300 and 0. Every function reads its plan whole, so a plan that is bad anywhere is refused
  * whichever chute is asked for; the one exception is hf_plan_step, which relies on hf_plan_start. */
-
 typedef struct {
     uint32_t rows; /* 0 on a refusal */
     uint8_t number;
@@ -169,18 +167,18 @@ typedef struct {
 /* How many rows a plan has. Refuses with 5, 9. */
 hf_rows hf_plan_read(const uint8_t *plan, size_t plan_length);
 
-/* The destination of one chute. Refuses with 5, 9, and with 10 where chute is 0 or greater than this plan's number of rows. */
+/* The destination of one chute. Refuses with 5, 9, 10: the last where chute is 0 or greater than this plan's number of rows. */
 hf_destination hf_plan_destination(const uint8_t *plan, size_t plan_length, uint32_t chute);
 
-/* Where the bytes of a chute's row are: in the site plan if it has that chute, else in the house plan. Refuses with 5, 9 where either plan is bad, and with
-   10 where neither has the chute. */
+/* Where the bytes of a chute's row are: in the site plan if it has that chute, else in the house plan. Refuses with 5, 9, 10: the first two where either
+   plan is bad, the last where neither has the chute. */
 hf_row hf_plan_row(const uint8_t *site, size_t site_length, const uint8_t *house, size_t house_length, uint32_t chute);
 
 /* How many bytes the plan with these destinations takes. Refuses with 9 where there are more than 4,096 rows or one is greater than 2,097,151. */
 hf_length hf_plan_length(const uint32_t *rows, size_t rows_length);
 
 /* Writes the plan with these destinations, each number in the fewest groups, into out, which must have exactly the length that hf_plan_length answers.
-   Answers 0, or 9 and nothing is written. */
+   Answers the number alone. Refuses with 9. */
 uint8_t hf_plan_write(const uint32_t *rows, size_t rows_length, uint8_t *out, size_t out_length);
 
 /* A walk over the rows one after another. hf_plan_start reads the plan whole; its answer is kept beside the plan, which must not change meanwhile:
@@ -190,8 +188,9 @@ uint8_t hf_plan_write(const uint32_t *rows, size_t rows_length, uint8_t *out, si
            walk.at = row.next;
            .. row.destination ..
        }
-   hf_plan_start refuses with 5, 9. hf_plan_step answers that number at every ask of a refused plan, and 10 past the last row. */
+   Refuses with 5, 9. */
 hf_cursor hf_plan_start(const uint8_t *plan, size_t plan_length);
+/* The next row. Refuses with 5, 9, 10: at every ask with the number that hf_plan_start gave, or past the last row with 10. */
 hf_walk hf_plan_step(const uint8_t *plan, size_t plan_length, size_t at, uint8_t number);
 
 #ifdef __cplusplus

@@ -3,7 +3,7 @@
 from ctypes import c_uint64
 from typing import Sequence, Tuple
 
-from .lending import LARGEST_SIZE, BytesLike, Output, lent, output, room_for, size
+from .lending import BytesLike, Output, lent, output, room_for, size
 from .library import functions
 from .refusal import accept
 
@@ -32,7 +32,7 @@ def cshake256(message: BytesLike, length: int, name: BytesLike = b"", customisat
 
 
 def kmac256(key: BytesLike, message: BytesLike, length: int, customisation: BytesLike = b"") -> Output:
-    """KMAC256: a tag of so many bytes; its length is part of what is authenticated, and may not be 0. Refuses with 2, 3, 5, 6.
+    """KMAC256: an authentication code of so many bytes; its length is part of what is authenticated, and may not be 0. Refuses with 2, 3, 5, 6.
 
     >>> kmac256(b"a key", b"a plan", 16, b"depot 7").hex()
     'aba8340f5e330c1d42d7f9a8055de1b5'
