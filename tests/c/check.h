@@ -39,5 +39,6 @@ void check_sessions(void);
 void check_seals(void);
 void check_generator(void);
 void check_plans(void);
+void check_stack(void);
 
 #endif

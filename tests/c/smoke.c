@@ -57,6 +57,8 @@ int main(int count, char **words) {
     report("the generator");
     check_plans();
     report("chute plans");
+    check_stack();
+    report("use of the stack");
     printf("%d checks, %d failed\n", checked, failed);
     return failed == 0 ? 0 : 1;
 }
