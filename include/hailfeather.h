@@ -4,10 +4,10 @@
  * Pointers. Every pointer to bytes or rows is followed by the number of its elements. No pointer may be null, also where there are no elements. A buffer
  * that a function writes must not overlap any other buffer of the same call; buffers that are only read may overlap. No pointer is kept after a call.
  *
- * State. Nothing is kept between calls, no memory is asked for but less than 4 KiB of stack, and any thread may call at any time. A session and a generator are plain values: pass
- * one in, and put the one that is handed back in its place. A copy is a second session or generator that goes on from the same point, so never draw
- * from two copies of one generator. Both hold secrets: overwrite them when they are no longer needed. Only pass in what a function of this header
- * handed back; of one made up by hand nothing is promised but that the call is safe, returns, and writes only the output lent to it.
+ * State. Nothing is kept between calls and no memory is asked for but less than 4 KiB of stack, so any thread may call at any time. A session and a generator
+ * are plain values: pass one in, and put the one that is handed back in its place. A copy is a second session or generator that goes on from the same point,
+ * so never draw from two copies of one generator. Both hold secrets: overwrite them when they are no longer needed. Only pass in what a function of this
+ * header handed back; of one made up by hand nothing is promised but that the call is safe, returns, and writes only the output lent to it.
  *
  * Numbers. What a call hands back has a number: 0 is done, any other is a refusal. Where several apply the smallest is given:
  *    0  done
