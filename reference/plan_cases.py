@@ -2,103 +2,20 @@
 """What the program plan_cases must write, worked out by the rules of document 01 alone.
 
 usage: python3 reference/plan_cases.py > crates/plan_cases/stdout
-Standard library only. Nothing here is taken from the Rattle code: the rules are those of 'The chute plan' and of the table of numbers.
 """
 import functools
 import sys
 
-MOST_BYTES = 65536
-MOST_ROWS = 4096
+import plan
+
+plan.rows_of = functools.lru_cache(maxsize=16)(plan.rows_of)  # the same plan is asked for thousands of chutes
+SOURCES = [None, "site", "house"]
 
 
-class Malformed(Exception):
-    pass
-
-
-def read_number(data, place):
-    """Groups of seven bits, lowest group first, top bit set when another follows, at most three groups."""
-    collected = []
-    while True:
-        if len(collected) == 3 or place >= len(data):
-            raise Malformed
-        byte = data[place]
-        place += 1
-        collected.append(byte & 0x7F)
-        if byte & 0x80 == 0:
-            break
-    total = 0
-    for seven_bits in reversed(collected):
-        total = (total << 7) | seven_bits
-    return total, place
-
-
-def read_rows(data):
-    """The number of rows, then each row's destination, then nothing more. A list of (destination, start, end)."""
-    number_of_rows, place = read_number(data, 0)
-    if number_of_rows > MOST_ROWS:
-        raise Malformed
-    result = []
-    while len(result) < number_of_rows:
-        destination, after = read_number(data, place)
-        result.append((destination, place, after))
-        place = after
-    if place != len(data):
-        raise Malformed
-    return result
-
-
-@functools.lru_cache(maxsize=16)
-def plan(data):
-    """(refusal, rows) of a plan to be read."""
-    if len(data) > MOST_BYTES:
-        return 5, []
-    try:
-        return 0, read_rows(data)
-    except Malformed:
-        return 9, []
-
-
-def lookup(data, chute):
-    """(refusal, destination): the plan's checks come before the chute's, and chutes count from 1."""
-    refusal, rows = plan(data)
-    if refusal:
-        return refusal, 0
-    if not 1 <= chute <= len(rows):
-        return 10, 0
-    return 0, rows[chute - 1][0]
-
-
-def row_of_two(site, house, chute):
-    """(refusal, source, start, bytes): in the site plan if it has that chute, else in the house plan. Source 0 is neither, 1 site, 2 house."""
-    refusals = [n for n in (plan(site)[0], plan(house)[0]) if n]
-    if refusals:
-        return min(refusals), 0, 0, b""
-    for source, data in ((1, site), (2, house)):
-        rows = plan(data)[1]
-        if 1 <= chute <= len(rows):
-            _, start, end = rows[chute - 1]
-            return 0, source, start, data[start:end]
-    return 10, 0, 0, b""
-
-
-def write_number(value):
-    """The fewest groups."""
-    groups = [value & 0x7F]
-    value >>= 7
-    while value:
-        groups.append(value & 0x7F)
-        value >>= 7
-    return bytes([g | 0x80 for g in groups[:-1]] + groups[-1:])
-
-
-def write(rows):
-    """The plan of these rows, or None where they break the plan's rules."""
-    if len(rows) > MOST_ROWS or any(r >= 1 << 21 for r in rows):
-        return None
-    return write_number(len(rows)) + b"".join(write_number(r) for r in rows)
-
-
-# What the program prints.
+def write_plan(rows):
+    """The plan of these rows, None where they break the plan's rules."""
+    length = sum(len(plan.written_number(value)) for value in [len(rows), *rows])
+    return plan.write(rows, length)[1]
 
 
 def mix(total, value):
@@ -106,19 +23,18 @@ def mix(total, value):
 
 
 def line_of(data):
-    refusal, rows = plan(data)
-    count = len(rows)
+    refusal, count = plan.read(data)
     parts = ["%d %d" % (refusal, count)]
     for chute in (0, 1, count, count + 1, 4096, 4294967295):
-        parts.append("%d:%d" % lookup(data, chute))
+        parts.append("%d:%d" % plan.destination(data, chute))
     return " ".join(parts)
 
 
 def digest(data, total, chutes):
-    refusal, rows = plan(data)
-    total = mix(mix(total, refusal), len(rows))
+    refusal, count = plan.read(data)
+    total = mix(mix(total, refusal), count)
     for chute in range(chutes):
-        number, destination = lookup(data, chute)
+        number, destination = plan.destination(data, chute)
         total = mix(mix(total, number), destination)
     return total
 
@@ -140,7 +56,7 @@ SAMPLE_ROWS = [0, 1, 127, 128, 300, 16383, 16384, 2097151]
 
 
 def damaged(out):
-    sample = write(SAMPLE_ROWS)
+    sample = write_plan(SAMPLE_ROWS)
     out("sample")
     out(line_of(sample))
     out("truncated")
@@ -179,8 +95,8 @@ def many_rows(out):
     body = bytes((7 * i + 3) % 128 for i in range(4098))
     for count in (4095, 4097, 4096):
         for size in (4095, 4096, 4097, 4098):
-            out(line_of(write_number(count) + body[:size]))
-    out(str(digest(write_number(4096) + body[:4096], 1, 4100)))
+            out(line_of(plan.written_number(count) + body[:size]))
+    out(str(digest(plan.written_number(4096) + body[:4096], 1, 4100)))
     out("long")
     for size in (65535, 65536, 65537, 65600):
         out(line_of(bytes(size)))
@@ -198,10 +114,11 @@ def pairs(out):
         (bad, long), (long, long), (b"", site), (site, b""),
     ):
         for chute in (0, 1, 2, 3, 4, 5, 4096, 4294967295):
-            refusal, source, start, part = row_of_two(first, second, chute)
+            refusal, source, start, length = plan.row(first, second, chute)
+            part = {"site": first, "house": second, None: b""}[source][start : start + length]
             # once as returned, once as cut at its location
             for _ in range(2):
-                out(" ".join(str(n) for n in [refusal, source, start, len(part)] + list(part)))
+                out(" ".join(str(n) for n in [refusal, SOURCES.index(source), start, length, *part]))
 
 
 def written(out):
@@ -211,7 +128,7 @@ def written(out):
         [], [0], SAMPLE_ROWS, [7, 300, 0], [2097151], [2097152], [7, 4294967295, 0], [127, 128, 16383, 16384],
         [(i * 511) % 2097152 for i in range(4096)], [(i * 511) % 2097152 for i in range(4097)], [2097151] * 4096,
     ):
-        data = write(rows)
+        data = write_plan(rows)
         needed = 0 if data is None else len(data)
         out("%d %d" % (9 if data is None else 0, needed))
         for lent in (needed, needed + 1, max(needed - 1, 0), 0):
@@ -226,16 +143,11 @@ def written(out):
 def walked(out):
     """Asks of a walker, one after another: on a refused plan its number, past the last row 10."""
     out("walked")
-    for data in (bytes.fromhex("0307AC0200"), b"\x00", write(SAMPLE_ROWS), bytes.fromhex("018700"), bytes.fromhex("0180808000"), b"", bytes(65537), bytes.fromhex("0000")):
-        refusal, rows = plan(data)
-        answers = []
-        for ask in range(12):
-            if refusal:
-                answers.append((refusal, 0))
-            elif ask < len(rows):
-                answers.append((0, rows[ask][0]))
-            else:
-                answers.append((10, 0))
+    for data in (bytes.fromhex("0307AC0200"), b"\x00", write_plan(SAMPLE_ROWS), bytes.fromhex("018700"), bytes.fromhex("0180808000"), b"", bytes(65537), bytes.fromhex("0000")):
+        walk, answers = plan.walker(data), []
+        for _ in range(12):
+            number, destination, walk = plan.next_row(walk)
+            answers.append((number, destination))
         out(" ".join("%d:%d" % a for a in answers))
 
 
