@@ -42,6 +42,7 @@ while IFS=: read -r command entries; do
     words=$(sed -n "s/^${entry%=*} ${entry#*=} //p" "$repository/include/refusals.txt")
     that "$command --help does not have refusal $entry" grep -Eqx " +${entry#*=}  $words" out
   done
+  that "$command --help lists a refusal twice" test -z "$(grep -E '^ +[0-9]+  ' out | sort | uniq -d)"
   try "$command --help"
 done <<'COMMANDS'
 plan report:plan_start=5 plan_start=9
