@@ -29,6 +29,7 @@ for word in --help -h; do
     that "$word does not tell of $command" grep -q "^    $command  *[a-z]" out
   done
 done
+that '--help does not tell of timing' grep -q '^Timing: .*may depend on secrets' out
 try --help
 run plan --help
 that 'plan --help has not all of its commands' test "$status" = 0 -a "$(grep -c '^Usage:' out)" = 3
@@ -54,3 +55,8 @@ cshake:session_cshake256=3 session_cshake256=4 take=5 give=6
 kmac:kmac256=2 kmac256=3 kmac256=5 kmac256=6 take=5 give=6
 draw:seed=3 seed=5 draw=3 draw=6
 COMMANDS
+
+for command in seal open; do
+  run $command --help
+  that "$command --help does not tell what the tag covers" grep -q 'covers ciphertext and label joined, not the place where' out
+done

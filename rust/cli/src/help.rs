@@ -26,6 +26,7 @@ const EXAMPLE: &str = "Head office writes a plan and seals it; a depot opens and
 const RULES: &str = "Files: where FILE is left out or is -, standard input is read. A file after -o appears whole or not at all.
 Texts: an option --X TEXT can also be given as --X-hex HEX or as --X-file FILE.
 Secrets: keys and seeds are read from files alone, since every user of the machine can see the arguments.
+Timing: how long a comparison takes is not hidden, and how long any command takes may depend on secrets.
 
 Exit status:
      0  done
@@ -69,7 +70,7 @@ pub fn of(command: &Command) -> String {
         help += &command
             .options
             .iter()
-            .map(|choice| format!("    {}\n        {}\n", choice.ways().join(", "), choice.about))
+            .map(|choice| format!("    {}\n{}", choice.ways().join(", "), indented(&indented(choice.about))))
             .collect::<String>();
     }
     help += "\n";

@@ -14,7 +14,8 @@ const IV: Choice = required("iv", Kind::Text, "the IV; it may be seen by all, an
 const LABEL: Choice = optional(
     "label",
     Kind::Text,
-    "the label: covered by the tag like the text, but not encrypted, and not in the sealed file; none if it is left out",
+    "the label: covered by the tag like the text, but not encrypted, and not in the sealed file; none if it is left out;
+the tag covers ciphertext and label joined, not the place where one ends and the other begins",
 );
 
 pub const SEAL: Command = Command {
@@ -71,7 +72,7 @@ pub const OPEN: Command = Command {
         ),
     ],
     notes: "Key, IV and label have to be those that the file was sealed with, and of a tag in the sealed file the length too.
-The beginning of a tag is a good shorter tag: a tag file that was cut to 16 bytes or more matches, unless --tag-length demands its length.",
+The beginning of a tag is a good shorter tag: a tag file that was cut to 16 bytes or more matches, unless --tag-length demands the whole length.",
     examples: "printf '000102030405060708090a0b0c0d0e0f101112131415161718191a1b1c1d1e1f' > demo.hex
 printf '7\\n300\\n0\\n' | hailfeather plan write | hailfeather seal --key-hex-file demo.hex --iv 1 -o plan.sealed
 hailfeather open --key-hex-file demo.hex --iv 1 plan.sealed | hailfeather plan report | head -n 1
