@@ -140,10 +140,10 @@ closed 64 without_error
 # raw bytes are not written to a terminal; digits and text are
 terminal() { python3 -c 'import os, pty, sys; sys.exit(os.waitstatus_to_exitcode(pty.spawn(sys.argv[1:])))' hailfeather "$@" >out; }
 for arguments in 'plan write report' 'seal --key-file key --iv x plan' 'open --key-file key --iv x sealed' 'cshake --raw plan' \
-  'kmac --raw --key-file key plan' 'draw --seed-file key --length 9' 'draw --seed-file key --length 9 -o -'; do
+  'kmac --raw --key-file key plan' 'draw --seed-file key --length 9' 'draw --seed-file key --length 9 --raw -o -'; do
   closed 64 terminal $arguments
   that 'no advice about the terminal' grep -q 'not written to a terminal: give -o FILE' out
 done
-for arguments in 'plan report plan' 'cshake plan' 'draw --seed-file key --length 9 --hex' 'plan write report -o made'; do
+for arguments in 'plan report plan' 'cshake plan' 'kmac --hex --key-file key plan' 'draw --seed-file key --length 9 --hex' 'plan write report -o made'; do
   closed 0 terminal $arguments
 done

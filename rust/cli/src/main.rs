@@ -1,6 +1,7 @@
 //! The command line tool `hailfeather`.
 #![forbid(unsafe_code)]
 
+mod answer;
 mod args;
 mod command;
 mod draw;
