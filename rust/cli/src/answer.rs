@@ -4,7 +4,8 @@ use crate::args::Arguments;
 use crate::failure::Failure;
 use crate::input::Secret;
 use crate::options::{optional, Choice, Kind};
-use crate::output::{self, Access, Content, Target};
+use crate::output::{self, Access, Content};
+use crate::target::Target;
 use hailfeather::limits;
 
 pub const RAW: Choice = optional(

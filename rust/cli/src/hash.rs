@@ -11,7 +11,6 @@ use hailfeather::{limits, Session};
 
 const CUSTOMISATION: Choice = optional("customisation", Kind::Text, "the customisation; none if it is left out");
 const LENGTH: Choice = optional("length", Kind::Number, "the output's length in bytes; 64 if it is left out");
-const OUTPUT: Choice = output("FILE", "a file for the output; standard output if it is left out");
 
 pub const CSHAKE: Command = Command {
     name: "cshake",
@@ -23,7 +22,7 @@ pub const CSHAKE: Command = Command {
         LENGTH,
         HEX,
         RAW,
-        OUTPUT,
+        output("FILE", "a file for the output; standard output if it is left out"),
     ],
     notes: "With no name and no customisation it is SHAKE256. A shorter output is the beginning of a longer one.",
     examples: "printf '\\003\\007\\254\\002\\000' | hailfeather cshake --length 32
@@ -47,7 +46,10 @@ pub const KMAC: Command = Command {
         optional("xof", Kind::Flag, "KMACXOF256: a shorter output is the beginning of a longer one"),
         HEX,
         RAW,
-        OUTPUT,
+        output(
+            "FILE",
+            "a file for the output, which with --raw its owner alone can read; standard output if it is left out",
+        ),
     ],
     notes: "With KMAC256 the output's length is part of what is authenticated.",
     examples: "printf 'a key' > demo.key
@@ -87,7 +89,8 @@ fn kmac(arguments: &Arguments) -> Result<(), Failure> {
         // KMAC256 has no session: the message is lent whole.
         hailfeather::kmac256(&key, &customisation, &message.whole()?, &mut answer.bytes)?;
     }
-    answer.write(Access::Usual)
+    // Raw output may be a key; digits are a code to be shown.
+    answer.write(if answer.raw { Access::OwnerOnly } else { Access::Usual })
 }
 
 fn message(arguments: &Arguments) -> Result<Reader, Failure> {

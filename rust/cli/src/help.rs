@@ -24,6 +24,7 @@ const EXAMPLE: &str = "Head office writes a plan and seals it; a depot opens and
 ";
 
 const RULES: &str = "Files: where FILE is left out or is -, standard input is read. A file after -o appears whole or not at all.
+One that is there keeps its mode, but what open, draw and kmac --raw write is readable by its owner alone.
 Texts: an option --X TEXT can also be given as --X-hex HEX or as --X-file FILE.
 Secrets: keys and seeds are read from files alone, since every user of the machine can see the arguments.
 Timing: how long a comparison takes is not hidden, and how long any command takes may depend on secrets.

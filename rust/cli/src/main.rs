@@ -15,6 +15,7 @@ mod output;
 mod plan;
 mod rows;
 mod seal;
+mod target;
 
 use failure::Failure;
 use std::env;

@@ -5,7 +5,8 @@ use crate::command::Command;
 use crate::failure::Failure;
 use crate::input::{self, Secret};
 use crate::options::{optional, output, required, Choice, Kind};
-use crate::output::{self, Access, Content, Target};
+use crate::output::{self, Access, Content};
+use crate::target::Target;
 use hailfeather::limits;
 use std::ffi::OsStr;
 
