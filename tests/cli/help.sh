@@ -18,6 +18,7 @@ try() {
   (cd empty && bash -euo pipefail ../script) >printed 2>err || status=$?
   that "status $status of the examples of $1: $(head -c 300 err)" test "$status" = 0
   that "the examples of $1 print something else" cmp printed want
+  that "the examples of $1 lose a refusal in a pipe" test -z "$(grep -E 'hailfeather .*[^|][|]([^|]|$)' script)"
 }
 
 run --version
@@ -30,7 +31,19 @@ for word in --help -h; do
   done
 done
 that '--help does not tell of timing' grep -q '^Timing: .*may depend on secrets' out
+that '--help does not tell of pipes' grep -q '^Pipes: .*the status of the last' out
+that '--help does not tell of line feeds' grep -q '^Bytes: .*a final line feed too, except in the -hex-file forms' out
 try --help
+# its refusals, in a shell as it comes: the status is that of the command that was refused, and nothing after it is done
+refused_in_example() {
+  rm -rf empty
+  mkdir empty
+  status=0
+  (cd empty && sed "$2" ../script | bash) >printed 2>err || status=$?
+  that "status $status, not $1, of the example with a refusal" test "$status" = "$1" -a ! -s printed -a ! -e "empty/$3"
+}
+refused_in_example 9 's/7\\n/2097152\\n/' plan.sealed
+refused_in_example 8 "/open/s/plan 1/plan 2/" opened.plan
 run plan --help
 that 'plan --help has not all of its commands' test "$status" = 0 -a "$(grep -c '^Usage:' out)" = 3
 

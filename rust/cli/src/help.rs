@@ -14,9 +14,10 @@ Usage:
 
 const EXAMPLE: &str = "Head office writes a plan and seals it; a depot opens and reports it:
     (umask 077; head -c 32 /dev/urandom > depot.key)
-    printf '7\\n300\\n0\\n' | hailfeather plan write -o depot.plan
-    hailfeather seal --key-file depot.key --iv 'depot 7, plan 1' depot.plan -o plan.sealed
-    hailfeather open --key-file depot.key --iv 'depot 7, plan 1' plan.sealed | hailfeather plan report
+    printf '7\\n300\\n0\\n' | hailfeather plan write -o depot.plan &&
+    hailfeather seal --key-file depot.key --iv 'depot 7, plan 1' depot.plan -o plan.sealed &&
+    hailfeather open --key-file depot.key --iv 'depot 7, plan 1' plan.sealed -o opened.plan &&
+    hailfeather plan report opened.plan
     # rows 3
     # 1 7
     # 2 300
@@ -25,6 +26,9 @@ const EXAMPLE: &str = "Head office writes a plan and seals it; a depot opens and
 
 const RULES: &str = "Files: where FILE is left out or is -, standard input is read. A file after -o appears whole or not at all.
 One that is there keeps its mode, but what open, draw and kmac --raw write is readable by its owner alone.
+Bytes: a file's bytes count as they are, a final line feed too, except in the -hex-file forms, where white space is passed over.
+Pipes: a command after a pipe runs even if the one before it was refused, and the shell reports the status of the last:
+write to a file with -o and go on with &&, or say set -o pipefail for the shell to report a refusal.
 Texts: an option --X TEXT can also be given as --X-hex HEX or as --X-file FILE.
 Secrets: keys and seeds are read from files alone, since every user of the machine can see the arguments.
 Timing: how long a comparison takes is not hidden, and how long any command takes may depend on secrets.

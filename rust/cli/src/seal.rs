@@ -38,7 +38,7 @@ pub const SEAL: Command = Command {
     notes: "The sealed file is the ciphertext followed by the tag. IV and label are not in it: those who open it have to know both.",
     examples: "(umask 077; head -c 32 /dev/urandom > depot.key)
 printf '\\003\\007\\254\\002\\000' | hailfeather seal --key-file depot.key --iv 'depot 7, plan 1' -o plan.sealed
-hailfeather open --key-file depot.key --iv 'depot 7, plan 1' plan.sealed | hailfeather plan lookup 2
+hailfeather open --key-file depot.key --iv 'depot 7, plan 1' plan.sealed -o opened.plan && hailfeather plan lookup 2 opened.plan
 # 300
 
 printf '\\003\\007\\254\\002\\000' > depot.plan
@@ -75,11 +75,12 @@ pub const OPEN: Command = Command {
     notes: "Key, IV and label have to be those that the file was sealed with, and of a tag in the sealed file the length too.
 The beginning of a tag is a good shorter tag: a tag file that was cut to 16 bytes or more matches, unless --tag-length demands the whole length.",
     examples: "printf '000102030405060708090a0b0c0d0e0f101112131415161718191a1b1c1d1e1f' > demo.hex
-printf '7\\n300\\n0\\n' | hailfeather plan write | hailfeather seal --key-hex-file demo.hex --iv 1 -o plan.sealed
-hailfeather open --key-hex-file demo.hex --iv 1 plan.sealed | hailfeather plan report | head -n 1
-# rows 3
+printf '9\\n' | hailfeather plan write -o depot.plan && hailfeather seal --key-hex-file demo.hex --iv 1 depot.plan -o plan.sealed
+hailfeather open --key-hex-file demo.hex --iv 1 plan.sealed -o opened.plan && hailfeather plan report opened.plan
+# rows 1
+# 1 9
 
-hailfeather open --key-hex-file demo.hex --iv 2 plan.sealed -o depot.plan 2>&1 || echo status $?
+hailfeather open --key-hex-file demo.hex --iv 2 plan.sealed -o opened.plan 2>&1 || echo status $?
 # refused 8: the tag does not match
 # status 8",
     refusals: &[("open", &[2, 3, 5, 7, 8])],
