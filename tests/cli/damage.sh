@@ -62,9 +62,9 @@ for length in 16 33 64; do
   gives plan open --key-file key --iv 'depot 7' --label 'plan 1' --tag-length $length --tag-file <(head -c $length tag) made
   for other in 0 15 16 32 33 63 64 65 1000; do
     [ $other != $length ] || continue
-    cat tag <(bytes 1000) | head -c $other >cut || true
-    fails 65 "cut: the tag is not $length bytes long, as --tag-length demands" \
-      open --key-file key --iv 'depot 7' --label 'plan 1' --tag-length $length --tag-file cut made
+    cat tag <(bytes 1000) | head -c $other >cut.tag || true
+    fails 65 "cut.tag: the tag is not $length bytes long, as --tag-length demands" \
+      open --key-file key --iv 'depot 7' --label 'plan 1' --tag-length $length --tag-file cut.tag made
   done
 done
 fails 65 'standard input: the tag is not 64' open --key-file key --iv 'depot 7' --tag-length 64 --tag-file - made </dev/zero

@@ -134,7 +134,8 @@ mode() {
   that "mode $(stat -c %a moded), not $1, after $2, of: ${*:3}" test "$(stat -c %a moded)" = "$1"
   that "a file was not replaced by: ${*:3}" test "$(cmp moded key >same 2>&1; echo $?)" = 1
 }
-for arguments in 'seal --key-file key --iv x plan' 'plan write' 'cshake --raw plan' 'cshake plan' 'kmac --key-file key' 'kmac --key-file key --hex'; do
+for arguments in 'seal --key-file key --iv x plan' 'plan write' 'cshake --raw plan' 'cshake plan' 'kmac --key-file key' \
+  'kmac --key-file key --hex'; do
   mode 640 - $arguments
   for before in 600 644 666 755 400; do
     mode $before $before $arguments
@@ -183,6 +184,7 @@ for arguments in 'plan write report' 'seal --key-file key --iv x plan' 'open --k
   closed 64 terminal $arguments
   that 'no advice about the terminal' grep -q 'not written to a terminal: give -o FILE' out
 done
-for arguments in 'plan report plan' 'cshake plan' 'kmac --hex --key-file key plan' 'draw --seed-file key --length 9 --hex' 'plan write report -o made'; do
+for arguments in 'plan report plan' 'cshake plan' 'kmac --hex --key-file key plan' 'draw --seed-file key --length 9 --hex' \
+  'plan write report -o made'; do
   closed 0 terminal $arguments
 done
