@@ -90,7 +90,7 @@ ln -s ../far/up far/fourth
 for pair in first:far/made second:far/made third:far/other far/fourth:far/up; do
   makes ${pair#*:} want cshake plan -o ${pair%:*}
   that "${pair%:*} was replaced" test -L ${pair%:*}
-  rm ${pair#*:}
+  rm -f ${pair#*:}
 done
 fails 64 'a file of its own' seal --key-file key --iv x --tag-file first plan -o far/made
 ln -s missing/made astray
