@@ -10,6 +10,7 @@ printf 'a seed of the depot' >seed
 for length in 0 1 64 207 208 209 416 417 1000; do
   drawn "open('seed', 'rb').read()" "b'depot 7'" "b'shift 2'" $length >want
   gives want draw --seed-file seed --personalisation 'depot 7' --additional 'shift 2' --length $length
+  gives want draw --seed-file seed --personalisation 'depot 7' --additional 'shift 2' --length $length --raw
   { od -An -v -tx1 want | tr -d ' \n'; echo; } >want.hex
   gives want.hex draw --seed-file - --personalisation='depot 7' --additional='shift 2' --length=$length --hex <seed
 done
@@ -49,5 +50,6 @@ refuses seed 3 draw --seed-file /dev/zero --personalisation-file <(bytes 85) --l
 refuses seed 5 draw --seed-file /dev/zero --length 99999999999999999999999
 
 fails 64 '--length N is missing' draw --seed-file seed
+fails 64 'exclude each other' draw --seed-file seed --length 1 --raw --hex
 fails 64 'too many' draw --seed-file seed --length 1 seed
 fails 64 'cannot both be read' draw --seed-file - --additional-file - --length 1

@@ -80,6 +80,27 @@ that 'an error changed a file' cmp old ../old
 that 'an error left a file' test "$(ls -A)" = "$listing"
 cd ..
 
+# a link that leads to nothing stays a link too: what it names is made; one that leads nowhere at all is an error, and stays
+mkdir far
+hailfeather cshake plan >want
+ln -s far/made first
+ln -s first second
+ln -s "$PWD/far/other" third
+ln -s ../far/up far/fourth
+for pair in first:far/made second:far/made third:far/other far/fourth:far/up; do
+  makes ${pair#*:} want cshake plan -o ${pair%:*}
+  that "${pair%:*} was replaced" test -L ${pair%:*}
+  rm -f ${pair#*:}
+done
+fails 64 'a file of its own' seal --key-file key --iv x --tag-file first plan -o far/made
+ln -s missing/made astray
+fails 74 'missing/made: .*(os error' cshake plan -o astray
+ln -s turn round
+ln -s round turn
+fails 74 '\(round\|turn\): .*(os error' cshake plan -o round
+that 'a link that leads nowhere was replaced' test -L astray -a -L round -a -L turn
+that 'a link that leads nowhere left a file' test "$(ls -A far)" = fourth -a ! -e missing
+
 # what is no file is written where it stands; - is standard output. The pipe is one of this directory and never a device: a tool that goes wrong may replace
 # what -o names, and as root that would be the machine's own /dev/null
 mkfifo pipe
@@ -104,16 +125,35 @@ left 70000 $((70000 - 4097)) seal --key-file key --iv-file - plan
 left 70000 $((70000 - 85)) draw --seed-file key --additional-file - --length 1
 rm -f long
 
-# who may read: as any new file, and the owner alone for opened text and drawn bytes
+# who may read: as with the file that is replaced, else as with any new file; the owner alone of opened text, drawn bytes and raw codes
+# mode WANTED BEFORE ARGUMENTS..: the mode of a file that replaces one of mode BEFORE, or that is new where BEFORE is -
 mode() {
-  (umask 027; hailfeather "${@:2}" -o moded </dev/null)
-  that "wrong mode of: ${*:2}" test "$(stat -c %a moded)" = "$1"
+  rm -f moded
+  [ "$2" = - ] || install -m "$2" key moded
+  (umask 027; hailfeather "${@:3}" -o moded </dev/null)
+  that "mode $(stat -c %a moded), not $1, after $2, of: ${*:3}" test "$(stat -c %a moded)" = "$1"
+  that "a file was not replaced by: ${*:3}" test "$(cmp moded key >same 2>&1; echo $?)" = 1
 }
-mode 640 seal --key-file key --iv x plan
-mode 600 open --key-file key --iv 'depot 7' --label 'plan 1' sealed
-mode 640 plan write
-mode 600 draw --seed-file key --length 9
-mode 640 kmac --key-file key
+for arguments in 'seal --key-file key --iv x plan' 'plan write' 'cshake --raw plan' 'cshake plan' 'kmac --key-file key' \
+  'kmac --key-file key --hex'; do
+  mode 640 - $arguments
+  for before in 600 644 666 755 400; do
+    mode $before $before $arguments
+  done
+done
+hailfeather seal --key-file key --iv x plan -o sealed.x
+for arguments in 'open --key-file key --iv x sealed.x' 'draw --seed-file key --length 9' 'draw --seed-file key --length 9 --hex' \
+  'kmac --key-file key --raw' 'kmac --key-file key --raw --xof'; do
+  mode 600 - $arguments
+  for before in 600 644 666 755; do
+    mode 600 $before $arguments
+  done
+  mode 400 444 $arguments
+done
+install -m 604 key moded
+ln -s moded linked
+hailfeather seal --key-file key --iv x --tag-file linked plan -o sealed.x
+that 'the mode of a tag file, through a link, was not kept' test "$(stat -c %a moded)" = 604 -a "$(stat -c %s moded)" = 32
 
 # standard output that is full or closed, and standard error that is closed: a status, and no panic
 closed() {
@@ -140,10 +180,11 @@ closed 64 without_error
 # raw bytes are not written to a terminal; digits and text are
 terminal() { python3 -c 'import os, pty, sys; sys.exit(os.waitstatus_to_exitcode(pty.spawn(sys.argv[1:])))' hailfeather "$@" >out; }
 for arguments in 'plan write report' 'seal --key-file key --iv x plan' 'open --key-file key --iv x sealed' 'cshake --raw plan' \
-  'kmac --raw --key-file key plan' 'draw --seed-file key --length 9' 'draw --seed-file key --length 9 -o -'; do
+  'kmac --raw --key-file key plan' 'draw --seed-file key --length 9' 'draw --seed-file key --length 9 --raw -o -'; do
   closed 64 terminal $arguments
   that 'no advice about the terminal' grep -q 'not written to a terminal: give -o FILE' out
 done
-for arguments in 'plan report plan' 'cshake plan' 'draw --seed-file key --length 9 --hex' 'plan write report -o made'; do
+for arguments in 'plan report plan' 'cshake plan' 'kmac --hex --key-file key plan' 'draw --seed-file key --length 9 --hex' \
+  'plan write report -o made'; do
   closed 0 terminal $arguments
 done

@@ -8,6 +8,7 @@ while IFS=: read -r name customisation length; do
   od -An -v -tx1 want | tr -d ' \n' >want.hex
   echo >>want.hex
   gives want.hex cshake --name "$name" --customisation "$customisation" --length "$length" message
+  gives want.hex cshake --name "$name" --customisation "$customisation" --length "$length" --hex message
   gives want cshake --name="$name" --customisation="$customisation" --length="$length" --raw <message
 done <<'CALLS'
 ::64
@@ -31,6 +32,7 @@ while read -r length xof function; do
   echo >>want.hex
   option=$([ "$xof" = 0 ] || echo --xof)
   gives want.hex kmac --key-file mac.key --customisation 'depot 7' --length $length $option message
+  gives want.hex kmac --key-file mac.key --customisation 'depot 7' --length $length $option --hex message
   gives want kmac --key-hex-file - --customisation 'depot 7' --length $length $option --raw message < <(od -An -v -tx1 mac.key)
   openssl mac -macopt "key:$(cat mac.key)" -macopt 'custom:depot 7' -macopt size:$length -macopt xof:$xof -in message KMAC256 | tr A-F a-f >openssl.hex
   that "kmac of $length bytes is not OpenSSL's" cmp openssl.hex want.hex
@@ -99,6 +101,8 @@ refuses take 5 cshake < <(bytes $((most + 1)))
 refuses take 5 cshake --length 99999999999999999999999 </dev/zero
 refuses give 6 cshake --length $((most + 1))
 refuses give 6 cshake --length 18446744073709551616 --raw
+fails 64 'exclude each other' cshake --raw --hex message
+fails 64 'exclude each other' kmac --key-file key --hex --raw message
 for length in x -1 '' 6k; do
   fails 64 'decimal digits' cshake --length="$length"
 done

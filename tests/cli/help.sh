@@ -18,6 +18,7 @@ try() {
   (cd empty && bash -euo pipefail ../script) >printed 2>err || status=$?
   that "status $status of the examples of $1: $(head -c 300 err)" test "$status" = 0
   that "the examples of $1 print something else" cmp printed want
+  that "the examples of $1 lose a refusal in a pipe" test -z "$(grep -E 'hailfeather .*[^|][|]([^|]|$)' script)"
 }
 
 run --version
@@ -29,7 +30,20 @@ for word in --help -h; do
     that "$word does not tell of $command" grep -q "^    $command  *[a-z]" out
   done
 done
+that '--help does not tell of timing' grep -q '^Timing: .*may depend on secrets' out
+that '--help does not tell of pipes' grep -q '^Pipes: .*the status of the last' out
+that '--help does not tell of line feeds' grep -q '^Bytes: .*a final line feed too, except in the -hex-file forms' out
 try --help
+# its refusals, in a shell as it comes: the status is that of the command that was refused, and nothing after it is done
+refused_in_example() {
+  rm -rf empty
+  mkdir empty
+  status=0
+  (cd empty && sed "$2" ../script | bash) >printed 2>err || status=$?
+  that "status $status, not $1, of the example with a refusal" test "$status" = "$1" -a ! -s printed -a ! -e "empty/$3"
+}
+refused_in_example 9 's/7\\n/2097152\\n/' plan.sealed
+refused_in_example 8 "/open/s/plan 1/plan 2/" opened.plan
 run plan --help
 that 'plan --help has not all of its commands' test "$status" = 0 -a "$(grep -c '^Usage:' out)" = 3
 
@@ -42,6 +56,7 @@ while IFS=: read -r command entries; do
     words=$(sed -n "s/^${entry%=*} ${entry#*=} //p" "$repository/include/refusals.txt")
     that "$command --help does not have refusal $entry" grep -Eqx " +${entry#*=}  $words" out
   done
+  that "$command --help lists a refusal twice" test -z "$(grep -E '^ +[0-9]+  ' out | sort | uniq -d)"
   try "$command --help"
 done <<'COMMANDS'
 plan report:plan_start=5 plan_start=9
@@ -53,3 +68,8 @@ cshake:session_cshake256=3 session_cshake256=4 take=5 give=6
 kmac:kmac256=2 kmac256=3 kmac256=5 kmac256=6 take=5 give=6
 draw:seed=3 seed=5 draw=3 draw=6
 COMMANDS
+
+for command in seal open; do
+  run $command --help
+  that "$command --help does not tell what the tag covers" grep -q 'covers ciphertext and label joined, not the place where' out
+done

@@ -36,6 +36,11 @@ done
 gives sealed seal --key-file key --iv-file iv --label-file - plan <label
 gives plan open --key-hex-file key.hex --iv-file iv --label-hex '80 6c 61 62 65 6c 0a' sealed
 
+# a final line feed counts, but not among hexadecimal digits
+refuses seal 2 seal --key-file <(cat key; echo) --iv x plan
+gives sealed seal --key-hex-file <(cat key.hex; echo) --iv-file iv --label-file label plan
+refuses open 8 open --key-file key --iv-file <(cat iv; echo) --label-file label sealed
+
 # 2: a key that is not 32 bytes, be it endless
 for length in 0 31 33 4096; do
   bytes $length >other

@@ -1,11 +1,12 @@
 //! The command draw.
 
+use crate::answer::{Answer, HEX, RAW};
 use crate::args::Arguments;
 use crate::command::Command;
 use crate::failure::Failure;
-use crate::input::{self, Secret};
+use crate::input;
 use crate::options::{optional, output, required, Kind};
-use crate::output::{self, Access, Content, Target};
+use crate::output::Access;
 use hailfeather::{limits, Generator};
 
 pub const DRAW: Command = Command {
@@ -25,7 +26,8 @@ pub const DRAW: Command = Command {
         ),
         optional("additional", Kind::Text, "the additional input of the draw; none if it is left out"),
         required("length", Kind::Number, "how many bytes"),
-        optional("hex", Kind::Flag, "write hexadecimal digits and a line feed, not the bytes themselves"),
+        RAW,
+        HEX,
         output(
             "FILE",
             "the bytes, in a file that its owner alone can read; standard output if it is left out",
@@ -44,19 +46,15 @@ printf '\\003\\007\\254\\002\\000' | hailfeather draw --seed-file - --length 16 
 };
 
 fn draw(arguments: &Arguments) -> Result<(), Failure> {
-    let hex = arguments.flag("hex");
-    let target = Target::of(arguments, !hex)?;
-    // One byte too many is refused by the library, so more is never made.
-    let mut out = Secret::zeros(arguments.number("length", 0, limits::OUTPUT + 1)?);
+    let mut answer = Answer::new(arguments, true)?;
     let seed = input::option(arguments, "seed", limits::SEED)?;
     let personalisation = input::option(arguments, "personalisation", limits::SHORT)?;
     let additional = input::option(arguments, "additional", limits::SHORT)?;
     check_additional(&additional)?;
     let mut generator = Generator::new();
     generator.seed(&seed, &personalisation)?;
-    generator.draw(&additional, &mut out)?;
-    let content = if hex { Content::Hex(&out) } else { Content::Raw(&out) };
-    output::write(&[(&target, content)], Access::OwnerOnly)
+    generator.draw(&additional, &mut answer.bytes)?;
+    answer.write(Access::OwnerOnly)
 }
 
 /// Asks for the additional input's refusal, by a draw of no bytes, before the seed's: its number is the smaller one, and the smallest is given.

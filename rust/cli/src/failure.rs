@@ -11,7 +11,7 @@ pub enum Failure {
     Refused(Refusal),
     /// The command line cannot be understood.
     Usage(String),
-    /// Text that was read breaks the rules for it.
+    /// What was read breaks the rules for it: text that is not understood, or a tag of another length.
     Malformed(String),
     /// A file that cannot be read or written: its name and the system's words.
     File(String, io::Error),

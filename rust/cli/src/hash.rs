@@ -1,17 +1,16 @@
 //! The commands cshake and kmac.
 
+use crate::answer::{Answer, HEX, RAW};
 use crate::args::Arguments;
 use crate::command::Command;
 use crate::failure::Failure;
 use crate::input::{self, Reader, Secret};
 use crate::options::{optional, output, required, Choice, Kind};
-use crate::output::{self, Access, Content, Target};
+use crate::output::Access;
 use hailfeather::{limits, Session};
 
 const CUSTOMISATION: Choice = optional("customisation", Kind::Text, "the customisation; none if it is left out");
 const LENGTH: Choice = optional("length", Kind::Number, "the output's length in bytes; 64 if it is left out");
-const RAW: Choice = optional("raw", Kind::Flag, "write the bytes themselves, not hexadecimal digits and a line feed");
-const OUTPUT: Choice = output("FILE", "a file for the output; standard output if it is left out");
 
 pub const CSHAKE: Command = Command {
     name: "cshake",
@@ -21,8 +20,9 @@ pub const CSHAKE: Command = Command {
         optional("name", Kind::Text, "the function's name; none if it is left out"),
         CUSTOMISATION,
         LENGTH,
+        HEX,
         RAW,
-        OUTPUT,
+        output("FILE", "a file for the output; standard output if it is left out"),
     ],
     notes: "With no name and no customisation it is SHAKE256. A shorter output is the beginning of a longer one.",
     examples: "printf '\\003\\007\\254\\002\\000' | hailfeather cshake --length 32
@@ -44,8 +44,12 @@ pub const KMAC: Command = Command {
         CUSTOMISATION,
         LENGTH,
         optional("xof", Kind::Flag, "KMACXOF256: a shorter output is the beginning of a longer one"),
+        HEX,
         RAW,
-        OUTPUT,
+        output(
+            "FILE",
+            "a file for the output, which with --raw its owner alone can read; standard output if it is left out",
+        ),
     ],
     notes: "With KMAC256 the output's length is part of what is authenticated.",
     examples: "printf 'a key' > demo.key
@@ -66,68 +70,42 @@ printf '\\003\\007\\254\\002\\000' | hailfeather kmac --key-file demo.key --xof 
 };
 
 fn cshake(arguments: &Arguments) -> Result<(), Failure> {
-    let answer = Answer::new(arguments)?;
+    let mut answer = Answer::new(arguments, false)?;
     let name = input::option(arguments, "name", limits::STRING)?;
     let customisation = input::option(arguments, "customisation", limits::STRING)?;
     let message = message(arguments)?;
-    answer.stream(Session::cshake256(&name, &customisation)?, message)
+    stream(Session::cshake256(&name, &customisation)?, message, &mut answer)?;
+    answer.write(Access::Usual)
 }
 
 fn kmac(arguments: &Arguments) -> Result<(), Failure> {
-    let mut answer = Answer::new(arguments)?;
+    let mut answer = Answer::new(arguments, false)?;
     let key = input::option(arguments, "key", limits::STRING)?;
     let customisation = input::option(arguments, "customisation", limits::STRING)?;
     let message = message(arguments)?;
     if arguments.flag("xof") {
-        return answer.stream(Session::kmacxof256(&key, &customisation)?, message);
+        stream(Session::kmacxof256(&key, &customisation)?, message, &mut answer)?;
+    } else {
+        // KMAC256 has no session: the message is lent whole.
+        hailfeather::kmac256(&key, &customisation, &message.whole()?, &mut answer.bytes)?;
     }
-    // KMAC256 has no session: the message is lent whole.
-    hailfeather::kmac256(&key, &customisation, &message.whole()?, &mut answer.bytes)?;
-    answer.write()
+    // Raw output may be a key; digits are a code to be shown.
+    answer.write(if answer.raw { Access::OwnerOnly } else { Access::Usual })
 }
 
 fn message(arguments: &Arguments) -> Result<Reader, Failure> {
     Reader::open(input::operand(arguments, 0), limits::MESSAGE)
 }
 
-/// The output, and how it is written.
-struct Answer {
-    bytes: Secret,
-    raw: bool,
-    target: Target,
-}
-
-impl Answer {
-    fn new(arguments: &Arguments) -> Result<Answer, Failure> {
-        let raw = arguments.flag("raw");
-        let target = Target::of(arguments, raw)?;
-        // One byte too many is refused by the library, so more is never made.
-        let length = arguments.number("length", 64, limits::OUTPUT + 1)?;
-        Ok(Answer {
-            bytes: Secret::zeros(length),
-            raw,
-            target,
-        })
-    }
-
-    fn stream(mut self, mut session: Session, mut message: Reader) -> Result<(), Failure> {
-        let mut piece = Secret::zeros(65_536);
-        loop {
-            match message.read(&mut piece)? {
-                0 => break,
-                length => session.take(&piece[..length])?,
-            }
+/// Feeds the message to a session piece by piece, so that little memory holds a long one, and asks it for the output.
+fn stream(mut session: Session, mut message: Reader, answer: &mut Answer) -> Result<(), Failure> {
+    let mut piece = Secret::zeros(65_536);
+    loop {
+        match message.read(&mut piece)? {
+            0 => break,
+            length => session.take(&piece[..length])?,
         }
-        session.give(&mut self.bytes)?;
-        self.write()
     }
-
-    fn write(&self) -> Result<(), Failure> {
-        let content = if self.raw {
-            Content::Raw(&self.bytes)
-        } else {
-            Content::Hex(&self.bytes)
-        };
-        output::write(&[(&self.target, content)], Access::Usual)
-    }
+    session.give(&mut answer.bytes)?;
+    Ok(())
 }

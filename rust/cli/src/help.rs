@@ -2,9 +2,7 @@
 
 use crate::command::{Command, COMMANDS};
 use crate::options::Choice;
-
-/// One line for each refusal that an entry of the library has: the entry, the number, the words.
-const TABLE: &str = include_str!("../../../include/refusals.txt");
+use hailfeather::Refusal;
 
 const ABOUT: &str = "hailfeather: chute plans, sealing, cSHAKE256, KMAC256 and the cSHAKE generator, proved
 
@@ -16,9 +14,10 @@ Usage:
 
 const EXAMPLE: &str = "Head office writes a plan and seals it; a depot opens and reports it:
     (umask 077; head -c 32 /dev/urandom > depot.key)
-    printf '7\\n300\\n0\\n' | hailfeather plan write -o depot.plan
-    hailfeather seal --key-file depot.key --iv 'depot 7, plan 1' depot.plan -o plan.sealed
-    hailfeather open --key-file depot.key --iv 'depot 7, plan 1' plan.sealed | hailfeather plan report
+    printf '7\\n300\\n0\\n' | hailfeather plan write -o depot.plan &&
+    hailfeather seal --key-file depot.key --iv 'depot 7, plan 1' depot.plan -o plan.sealed &&
+    hailfeather open --key-file depot.key --iv 'depot 7, plan 1' plan.sealed -o opened.plan &&
+    hailfeather plan report opened.plan
     # rows 3
     # 1 7
     # 2 300
@@ -26,14 +25,19 @@ const EXAMPLE: &str = "Head office writes a plan and seals it; a depot opens and
 ";
 
 const RULES: &str = "Files: where FILE is left out or is -, standard input is read. A file after -o appears whole or not at all.
+One that is there keeps its mode, but what open, draw and kmac --raw write is readable by its owner alone.
+Bytes: a file's bytes count as they are, a final line feed too, except in the -hex-file forms, where white space is passed over.
+Pipes: a command after a pipe runs even if the one before it was refused, and the shell reports the status of the last:
+write to a file with -o and go on with &&, or say set -o pipefail for the shell to report a refusal.
 Texts: an option --X TEXT can also be given as --X-hex HEX or as --X-file FILE.
 Secrets: keys and seeds are read from files alone, since every user of the machine can see the arguments.
+Timing: how long a comparison takes is not hidden, and how long any command takes may depend on secrets.
 
 Exit status:
      0  done
      2 to 10  refused by the library, with its number; nothing is written
     64  the command line is not understood
-    65  a text that was read is malformed
+    65  a text that was read is malformed, or a file has no tag of the length that is asked for
     74  a file cannot be read or written
 ";
 
@@ -71,7 +75,7 @@ pub fn of(command: &Command) -> String {
         help += &command
             .options
             .iter()
-            .map(|choice| format!("    {}\n        {}\n", choice.ways().join(", "), choice.about))
+            .map(|choice| format!("    {}\n{}", choice.ways().join(", "), indented(&indented(choice.about))))
             .collect::<String>();
     }
     help += "\n";
@@ -80,9 +84,9 @@ pub fn of(command: &Command) -> String {
     }
     help += &format!("{notes}\n\nExamples:\n{}\n", indented(examples));
     help += "Refusals, by the number that is also the exit status:\n";
-    help + &refusals(command)
+    help + &refusals(command.refusals)
         .iter()
-        .map(|(number, words)| format!("    {number:>2}  {words}\n"))
+        .map(|refusal| format!("    {:>2}  {}\n", refusal.number(), refusal.words()))
         .collect::<String>()
 }
 
@@ -108,22 +112,18 @@ fn indented(lines: &str) -> String {
     lines.lines().map(|line| format!("    {line}").trim_end().to_string() + "\n").collect()
 }
 
-/// The numbers that a command can get and the words for each, in order, none twice.
-fn refusals(command: &Command) -> Vec<(u8, &'static str)> {
-    let of_entry = |(entry, numbers): &(&'static str, &'static [u8])| {
-        numbers
-            .iter()
-            .filter_map(|number| Some((*number, words(entry, *number)?)))
-            .collect::<Vec<_>>()
-    };
-    let mut refusals: Vec<(u8, &str)> = command.refusals.iter().flat_map(of_entry).collect();
-    refusals.sort_by_key(|(number, _)| *number);
-    refusals.dedup();
+/// The refusals with these numbers of these entries, by rising number, none twice.
+fn refusals(entries: &[(&str, &[u8])]) -> Vec<Refusal> {
+    let mut refusals: Vec<Refusal> = Vec::new();
+    for (entry, numbers) in entries {
+        for refusal in hailfeather::refusals(entry).filter(|refusal| numbers.contains(&refusal.number())) {
+            if !refusals.contains(&refusal) {
+                refusals.push(refusal);
+            }
+        }
+    }
+    refusals.sort_by_key(|refusal| refusal.number());
     refusals
-}
-
-fn words(entry: &str, number: u8) -> Option<&'static str> {
-    TABLE.lines().find_map(|line| line.strip_prefix(&format!("{entry} {number} ")))
 }
 
 #[cfg(test)]
@@ -131,12 +131,20 @@ mod tests {
     use super::*;
 
     #[test]
-    fn every_refusal_has_words() {
+    fn every_refusal_is_the_library_s() {
         for command in COMMANDS {
             for (entry, numbers) in command.refusals {
-                assert!(numbers.iter().all(|number| words(entry, *number).is_some()), "{entry} {numbers:?}");
+                let found: Vec<u8> = refusals(&[(entry, numbers)]).iter().map(|refusal| refusal.number()).collect();
+                assert_eq!(found, *numbers, "{entry}");
             }
         }
+    }
+
+    #[test]
+    fn equal_refusals_are_listed_once_and_others_each() {
+        let numbers = |entries: &[(&str, &[u8])]| refusals(entries).iter().map(|refusal| refusal.number()).collect::<Vec<u8>>();
+        assert_eq!(numbers(&[("kmac256", &[2, 5]), ("session_kmacxof256", &[2]), ("take", &[5])]), [2, 5]);
+        assert_eq!(numbers(&[("kmac256", &[6]), ("kmacxof256", &[6]), ("kmac256", &[6, 2])]), [2, 6, 6]);
     }
 
     #[test]

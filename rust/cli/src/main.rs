@@ -1,6 +1,7 @@
 //! The command line tool `hailfeather`.
 #![forbid(unsafe_code)]
 
+mod answer;
 mod args;
 mod command;
 mod draw;
@@ -14,6 +15,7 @@ mod output;
 mod plan;
 mod rows;
 mod seal;
+mod target;
 
 use failure::Failure;
 use std::env;

@@ -1,14 +1,12 @@
 //! Writing: files that appear whole or not at all, and standard output.
 
-use crate::args::{Arguments, STANDARD};
 use crate::failure::Failure;
 use crate::hex;
-use crate::options::OUTPUT;
-use std::ffi::OsStr;
-use std::fs::{self, File, OpenOptions};
-use std::io::{self, IsTerminal, Write};
+use crate::target::{directory, Target};
+use std::fs::{self, File, OpenOptions, Permissions};
+use std::io::{self, Write};
 use std::os::fd::AsFd;
-use std::os::unix::fs::OpenOptionsExt;
+use std::os::unix::fs::{MetadataExt, OpenOptionsExt, PermissionsExt};
 use std::path::{Path, PathBuf};
 use std::process;
 
@@ -38,63 +36,41 @@ impl Content<'_> {
 /// Who may read and write a file that is made.
 #[derive(Clone, Copy)]
 pub enum Access {
-    /// As with any new file.
+    /// As with the file that it replaces, else as with any new file.
     Usual,
-    /// The owner alone.
+    /// The owner alone, and no more than with the file that it replaces.
     OwnerOnly,
 }
 
-/// Where an output goes.
-#[derive(PartialEq)]
-pub enum Target {
-    Standard,
-    /// A file that is there or will be, by its full name.
-    File(PathBuf),
-    /// Something that is there and is no file, such as a device: it is written where it stands.
-    Device(PathBuf),
-}
-
-impl Target {
-    /// The target that -o names, standard output if there is none. Raw bytes do not go to a terminal.
-    pub fn of(arguments: &Arguments, raw: bool) -> Result<Target, Failure> {
-        let target = Target::named(arguments.value(OUTPUT).unwrap_or(OsStr::new(STANDARD)));
-        if raw && target == Target::Standard && io::stdout().is_terminal() {
-            return Err(Failure::Usage(
-                "raw bytes are not written to a terminal: give -o FILE, or pipe them into a program".to_string(),
-            ));
-        }
-        Ok(target)
+/// Who may read, write and run the file in a place; None if there is none.
+fn mode(place: &Path) -> io::Result<Option<u32>> {
+    match fs::metadata(place) {
+        Ok(found) => Ok(Some(found.mode() & 0o777)),
+        Err(error) if error.kind() == io::ErrorKind::NotFound => Ok(None),
+        Err(error) => Err(error),
     }
-
-    pub fn named(name: &OsStr) -> Target {
-        let path = Path::new(name);
-        match fs::metadata(path) {
-            _ if name == STANDARD => Target::Standard,
-            Ok(found) if !found.is_file() => Target::Device(path.to_path_buf()),
-            // A link stays a link: what it leads to is replaced.
-            Ok(_) => Target::File(fs::canonicalize(path).unwrap_or(path.to_path_buf())),
-            Err(_) => Target::File(full_name(path).unwrap_or(path.to_path_buf())),
-        }
-    }
-}
-
-fn full_name(path: &Path) -> Option<PathBuf> {
-    Some(fs::canonicalize(directory(path)).ok()?.join(path.file_name()?))
-}
-
-fn directory(path: &Path) -> &Path {
-    path.parent().filter(|parent| !parent.as_os_str().is_empty()).unwrap_or(Path::new("."))
 }
 
 /// A temporary file that is removed unless it is renamed.
 struct Temporary(Option<PathBuf>);
 
 impl Temporary {
-    fn create(directory: &Path, access: Access) -> io::Result<(Temporary, File)> {
+    /// Makes the file that is to stand in a place.
+    fn create(place: &Path, access: Access) -> io::Result<(Temporary, File)> {
+        let replaced = mode(place)?;
         let mode = match access {
-            Access::Usual => 0o666,
-            Access::OwnerOnly => 0o600,
+            Access::Usual => replaced.unwrap_or(0o666),
+            Access::OwnerOnly => replaced.unwrap_or(0o600) & 0o600,
         };
+        let (temporary, file) = Temporary::open(directory(place), mode)?;
+        // The umask is for new files, and may have narrowed the mode that is to be kept.
+        if let (Access::Usual, Some(kept)) = (access, replaced) {
+            file.set_permissions(Permissions::from_mode(kept))?;
+        }
+        Ok((temporary, file))
+    }
+
+    fn open(directory: &Path, mode: u32) -> io::Result<(Temporary, File)> {
         let mut attempt = 0;
         loop {
             let path = directory.join(format!(".hailfeather-{}-{attempt}", process::id()));
@@ -132,13 +108,13 @@ impl<'a> Prepared<'a> {
     fn new(target: &Target, access: Access, content: Content<'a>) -> io::Result<Prepared<'a>> {
         match target {
             Target::Standard => Ok(Prepared::Stream(
-                name(target),
+                target.to_string(),
                 File::from(io::stdout().as_fd().try_clone_to_owned()?),
                 content,
             )),
-            Target::Device(path) => Ok(Prepared::Stream(name(target), OpenOptions::new().write(true).open(path)?, content)),
+            Target::Device(path) => Ok(Prepared::Stream(target.to_string(), OpenOptions::new().write(true).open(path)?, content)),
             Target::File(path) => {
-                let (temporary, mut file) = Temporary::create(directory(path), access)?;
+                let (temporary, mut file) = Temporary::create(path, access)?;
                 content.write(&mut file)?;
                 file.sync_all()?;
                 Ok(Prepared::File(path.clone(), temporary))
@@ -156,18 +132,11 @@ impl<'a> Prepared<'a> {
     }
 }
 
-fn name(target: &Target) -> String {
-    match target {
-        Target::Standard => "standard output".to_string(),
-        Target::File(path) | Target::Device(path) => path.to_string_lossy().into_owned(),
-    }
-}
-
 /// Writes every content to its target. No file is put in its place before all are written, and streams come first: where one fails no file appears.
 pub fn write(contents: &[(&Target, Content)], access: Access) -> Result<(), Failure> {
     let mut prepared = Vec::new();
     for (target, content) in contents {
-        prepared.push(Prepared::new(target, access, *content).map_err(|error| Failure::File(name(target), error))?);
+        prepared.push(Prepared::new(target, access, *content).map_err(|error| Failure::File(target.to_string(), error))?);
     }
     let (streams, files): (Vec<_>, Vec<_>) = prepared.into_iter().partition(|one| matches!(one, Prepared::Stream(..)));
     streams.into_iter().chain(files).try_for_each(Prepared::put)

@@ -5,8 +5,9 @@ use crate::command::Command;
 use crate::failure::Failure;
 use crate::input::{self, Secret};
 use crate::options::{optional, output, Kind};
-use crate::output::{self, Access, Content, Target};
+use crate::output::{self, Access, Content};
 use crate::rows;
+use crate::target::Target;
 use hailfeather::{limits, plan};
 use std::ffi::OsStr;
 use std::fmt::Write;
@@ -23,9 +24,9 @@ pub const REPORT: Command = Command {
 # 2 300
 # 3 0
 
-printf '7\\n300\\n0\\n' | hailfeather plan write -o depot.plan
-hailfeather plan report depot.plan | tail -n 1
-# 3 0",
+printf '9\\n' | hailfeather plan write -o depot.plan && hailfeather plan report depot.plan
+# rows 1
+# 1 9",
     refusals: &[("plan_start", &[5, 9])],
     run: report,
 };
@@ -44,9 +45,9 @@ pub const LOOKUP: Command = Command {
 hailfeather plan lookup 2 depot.plan
 # 300
 
-printf '9\\n' | hailfeather plan write | hailfeather plan lookup 1 --house depot.plan
+printf '9\\n' | hailfeather plan write -o site.plan && hailfeather plan lookup 1 site.plan --house depot.plan
 # 9 site
-printf '9\\n' | hailfeather plan write | hailfeather plan lookup 2 --house depot.plan
+hailfeather plan lookup 2 site.plan --house depot.plan
 # 300 house",
     refusals: &[("plan_destination", &[5, 9, 10]), ("plan_row", &[5, 9, 10])],
     run: lookup,
@@ -64,7 +65,8 @@ the number of rows. Blank lines and lines that start with # are passed over.",
 od -An -tx1 depot.plan
 #  03 07 ac 02 00
 
-hailfeather plan report depot.plan | hailfeather plan write | cmp - depot.plan && echo the same
+hailfeather plan report depot.plan > rows.txt && hailfeather plan write rows.txt -o again.plan &&
+cmp again.plan depot.plan && echo the same
 # the same",
     refusals: &[("plan_length", &[9])],
     run: write,

@@ -53,14 +53,26 @@ impl Refusal {
     ///
     /// Panics where the file has no such line: then the archive is not the one that this package was written for.
     fn of(entry: &str, number: u8) -> Refusal {
-        let mut listed = lines().filter(|line| line.0 == entry && line.1 == number);
-        match listed.next() {
-            Some((_, _, words)) => Refusal { number, words },
+        match refusals(entry).find(|refusal| refusal.number == number) {
+            Some(refusal) => refusal,
             None => panic!(
                 "hailfeather: libhailfeather.a answered {entry} with {number}, which refusals.txt does not list: they are of different versions"
             ),
         }
     }
+}
+
+/// All refusals that an entry of the library has, by rising number: none for a name that is no entry's. [`Refusal`] lists the entries.
+///
+/// ```
+/// let numbers: Vec<u8> = hailfeather::refusals("draw").map(|refusal| refusal.number()).collect();
+/// assert_eq!(numbers, [1, 3, 6]);
+/// assert_eq!(hailfeather::refusals("no entry").count(), 0);
+/// ```
+pub fn refusals(entry: &str) -> impl Iterator<Item = Refusal> + '_ {
+    lines()
+        .filter(move |line| line.0 == entry)
+        .map(|(_, number, words)| Refusal { number, words })
 }
 
 /// The lines of refusals.txt, taken apart.
@@ -129,6 +141,19 @@ mod tests {
                 .unwrap();
             assert_eq!(line, format!("{entry} {number} {words}"));
             assert_eq!(check(entry, number), Err(Refusal { number, words }));
+        }
+    }
+
+    #[test]
+    fn an_entry_has_its_own_refusals_in_order() {
+        for (entry, ..) in lines() {
+            let own: Vec<_> = lines().filter(|line| line.0 == entry).map(|(_, number, words)| (number, words)).collect();
+            let found: Vec<_> = refusals(entry).map(|refusal| (refusal.number(), refusal.words())).collect();
+            assert_eq!(found, own);
+            assert!(found.windows(2).all(|pair| pair[0].0 < pair[1].0), "{entry}");
+        }
+        for name in ["", "kmac", "kmac256 ", "kmac2567", "KMAC256"] {
+            assert_eq!(refusals(name).count(), 0, "{name}");
         }
     }
 
