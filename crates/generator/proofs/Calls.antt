@@ -1,10 +1,8 @@
 -- The cSHAKE256 calls that a seeding and a piece are made of: what the sponge gives after their input, and how often it was permuted.
 use mathlib.Core.Path.{_≡_, refl, sym, ap, _∙_}
-use mathlib.Core.List.{List, _++_, append-nil}
+use mathlib.Core.List.{List, append-nil}
 use Prim.Native.Nat.{ℕ, _+_, _-_, _/_, _%_, _≤_, _<_}
 use native.Mathlib.Omega.{arith}
-use mir.Syntax.{w64}
-use mir.Val.{Fits}
 use borrow.Author.Tests.{le-ltb}
 use lib.ListN.{length, take, drop, length-append, length-drop}
 use Rattle.encode.specs.Encode.{lengthSuffixed}
@@ -34,18 +32,7 @@ module _ (X N S : List ℕ) (n : ℕ) (ok : Accepted (cshake256 X n N S)) (s : S
   pub call-runs : s .blocks + length X / 136 + 1 + outputRuns n ≡ runs (cshake256 X n N S)
   call-runs = omega (arith, runs-by-lengths (cshake256 X n N S), start-blocks (named N S) s h (start-accepted (cshake256 X n N S) ok))
 
--- a seeding's count, by the lengths of seed and personalisation, and the sums on the way to it
-pub seed-counted : (x p : List ℕ) (b r : ℕ) → b + length (x ++ lengthSuffixed p) / 136 + 1 + outputRuns 64 ≡ r → b + (length x + length p + 1) / 136 + 1 ≡ r
-seed-counted x p b r h =
-    let long : length (x ++ lengthSuffixed p) ≡ length x + (length p + 1) = simp length-append in
-    omega (arith, h, long)
-
-pub message-fits : (x p : ℕ) → p ≤ 84 → x ≤ 65536 → Fits w64 (x + p) × Fits w64 (x + p + 1)
-message-fits x p hp hx = (omega arith, omega arith)
-
-pub count-fits : (b x p : ℕ) → b ≤ 128 → p ≤ 84 → x ≤ 65536 → Fits w64 (b + (x + p + 1) / 136) × Fits w64 (b + (x + p + 1) / 136 + 1)
-count-fits b x p hb hp hx = (omega arith, omega arith)
-
+-- a key of 64 bytes is a customisation that is accepted
 pub key-fits : (k : List ℕ) → 64 ≡ length k → length k ≤ maxCustomisation
 key-fits k e = omega arith
 

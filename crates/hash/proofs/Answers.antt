@@ -5,8 +5,6 @@ use mathlib.Core.List.{List, _++_}
 use Prim.Native.Nat.{ℕ, zero, suc, _+_, _*_, _/_, _%_, _≤_, _<_}
 use native.Mathlib.Nat.{mod-eq-of-lt}
 use native.Mathlib.Omega.{arith}
-use mir.Syntax.{w64}
-use mir.Val.{Fits}
 use borrow.Author.Tests.{ltb-false}
 use lib.Dec.{ltb, eqb}
 use lib.ListN.{length}
@@ -106,11 +104,3 @@ module _ {f : Function} (c : Call f) (s : Started) (e out : List ℕ) (r : ℕ) 
   answered ok before =
       let n : r ≡ count c = counted ∙ sym (count-accepted c ok) in
       (sym (λ i. record { number = ok i; runs = sym n i }), output ∙ sym (ap (λ (k : ℕ). writtenWith k (sponge (fed c) (outputOf c)) before) ok))
-
--- ---- the sums of a count
-
-pub input-fits : (b m e : ℕ) → b ≤ 128 → m ≤ 16777216 → e ≤ 9 → Fits w64 (m + e) × Fits w64 (b + (m + e) / 136) × Fits w64 (b + (m + e) / 136 + 1)
-input-fits b m e hb hm he = (omega arith, omega arith, omega arith)
-
-pub runs-fit : (b m e n o : ℕ) → b ≤ 128 → m ≤ 16777216 → e ≤ 9 → n ≤ 16777216 → o ≡ outputRuns n → Fits w64 (b + (m + e) / 136 + 1 + o)
-runs-fit b m e n o hb hm he hn ho = omega arith

@@ -46,7 +46,7 @@ module _ (c : Call KMACXOF256) (s : Started) (h : Starts (startOf c) s) (ok : st
   xof-output u n e =
       ap (squeezed n) e ∙ call-output c s (messageOf c ++ zeroCode) n h ok (ap (λ (l : List ℕ). messageOf c ++ l) (ended (outputOf c)))
 
-  xof-runs : s .blocks + (length (messageOf c) + 2) / 136 + 1 + outputRuns (outputOf c) ≡ runs c
+  pub xof-runs : s .blocks + (length (messageOf c) + 2) / 136 + 1 + outputRuns (outputOf c) ≡ runs c
   xof-runs =
       let two : 2 ≡ length (ending KMACXOF256 (outputOf c)) = ap length (ended (outputOf c)) in
       omega (arith, runs-by-lengths c, start-blocks (startOf c) s h ok, length-ending KMACXOF256 (outputOf c))
@@ -74,17 +74,6 @@ count-fits r h = omega arith
 
 pub counts-fit : (r s : ℕ) → r ≤ 2000000 → s ≤ 2000000 → Fits w64 (r + s)
 counts-fit r s hr hs = omega arith
-
--- the stream's
-pub stream-runs : (key iv : List ℕ) (n o : ℕ) (s : Started) → Starts (keyed key iv) s → startRefusal (keyed key iv) ≡ 0 → o ≡ outputRuns (32 + n)
-    → s .blocks + 1 + o ≡ runs (keyStreamCall key iv n)
-stream-runs key iv n o s h ok e = omega (arith, xof-runs (keyStreamCall key iv n) s h ok)
-
-pub stream-few : (blocks n o : ℕ) → blocks ≤ 128 → n ≤ 16777216 → o ≡ outputRuns (32 + n) → blocks + 1 + o ≤ 2000000
-stream-few blocks n o hb hn e = omega arith
-
-pub stream-fits : (blocks n : ℕ) → blocks ≤ 128 → n ≤ 16777216 → Fits w64 (blocks + 1) × Fits w64 (32 + n)
-stream-fits blocks n hb hn = (omega arith, omega arith)
 
 -- the key stream: 32 bytes, and then n from byte 32 of the first block on
 module _ (key iv a b : List ℕ) (n p : ℕ) (s : Started) (h : Starts (keyed key iv) s) (ok : startRefusal (keyed key iv) ≡ 0)

@@ -1,19 +1,19 @@
 -- The number is the first that applies; past it the calls make the input of the definition's cSHAKE256 call, whose 64 bytes are the new key
 -- (`Calls.call-output`), and the count is the sum of their permutations.
 use mathlib.Core.Path.{_≡_, refl, sym, ap, _∙_}
-use Prim.Native.Nat.{_+_, _/_, _≤_}
+use mathlib.Core.List.{_++_}
+use Prim.Native.Nat.{_+_, _≤_}
 use native.Mathlib.Nat.{mod-eq-of-lt}
 use borrow.Author.Needs.{needs}
-use mir.Syntax.{w64}
-use mir.Val.{Fits}
-use lib.ListN.{length}
+use native.Mathlib.Omega.{arith}
+use lib.ListN.{length, length-append}
 use Rattle.encode.specs.Encode.{lengthSuffixed}
 use Rattle.alike.specs.Seeding.{seedName, seedMessage, seedRefusal}
 use Rattle.alike.specs.Laws.{seedCall-accepted}
 use Rattle.sponge.specs.Running.{running}
 use Rattle.sponge.proofs.Chain.{then-absorb}
 use Rattle.generator.specs.Seed.{seeding}
-use Rattle.generator.proofs.Calls.{call-output, call-runs, seed-counted, message-fits, count-fits, key-fits}
+use Rattle.generator.proofs.Calls.{call-output, call-runs, key-fits}
 use Rattle.generator.proofs.Answers.{seed-refused, seed-accepted, seed-limits}
 use Rattle.generator.proofs.seed.Statement.{statement}
 use Rattle.generator.proofs.seed.Tie as tie
@@ -41,16 +41,11 @@ key-length c = search needs
 absorb-encoded-requires : tie.Need-absorb-encoded-requires
 absorb-encoded-requires c κs = tested (c .before .before .before .before .before .before .before .before) .1
 
--- the sums of the count
-fits : (s : tie.After-start-named) → Fits w64 (s .start-named .result .blocks + (length (s .before .before .before .before .before .before .before .before .args .seed .now) + length (s .before .before .before .before .before .before .before .before .args .personalisation .now) + 1) / 136)
-    × Fits w64 (s .start-named .result .blocks + (length (s .before .before .before .before .before .before .before .before .args .seed .now) + length (s .before .before .before .before .before .before .before .before .args .personalisation .now) + 1) / 136 + 1)
-fits s = count-fits _ _ _ (s .start-named .ensures .few) (tested (s .before .before .before .before) .1) (tested (s .before .before .before .before) .2)
-
 add-t29 : tie.Need-add-t29
-add-t29 c = fits (c .before .before .before .before .before .before .before .before .before .before .before .before) .0
+add-t29 c = omega (arith, c .before .before .before .before .before .before .before .before .before .before .before .before .start-named .ensures .few, tested (c .before .before .before .before .before .before .before .before .before .before .before .before .before .before .before .before))
 
 add-t30 : tie.Need-add-t30
-add-t30 c = fits (c .before .before .before .before .before .before .before .before .before .before .before .before) .1
+add-t30 c = omega (arith, c .before .before .before .before .before .before .before .before .before .before .before .before .start-named .ensures .few, tested (c .before .before .before .before .before .before .before .before .before .before .before .before .before .before .before .before))
 
 returns-2 : tie.Need-returns-2
 returns-2 c =
@@ -69,7 +64,8 @@ returns-2 c =
     (ap (running (first .last .0)) (mod-eq-of-lt (first .ensures .1)) ∙ first .ensures .0) (second .ensures .0) in
     let given = call-output (seedMessage (seeding key x p)) seedName key 64 ok (start .result) (start .ensures) (second .last .0) (end .last .0) (second .result) input (second .ensures .1) (end .ensures) in
     let counted = call-runs (seedMessage (seeding key x p)) seedName key 64 ok (start .result) (start .ensures) (second .last .0) (end .last .0) (second .result) input (second .ensures .1) (end .ensures) in
-    seed-accepted (a .generator) x p _ (squeeze .last .1 .1 .0) (past .0) (seed-counted x p (start .result .blocks) _ counted) (squeeze .ensures .1 ∙ given)
+    let long : length (x ++ lengthSuffixed p) ≡ length x + (length p + 1) = simp length-append in
+    seed-accepted (a .generator) x p _ (squeeze .last .1 .1 .0) (past .0) (omega (arith, counted, long)) (squeeze .ensures .1 ∙ given)
 
 pub seed-spec : {M : Type 1} → statement M
 seed-spec =
@@ -86,8 +82,8 @@ seed-spec =
     (λ c κs. tt)
     (λ c. refl)
     (λ c κs. tt)
-    (λ c. message-fits _ _ (tested (c .before .before .before .before .before .before .before .before .before .before .before .before .before .before .before) .1) (tested (c .before .before .before .before .before .before .before .before .before .before .before .before .before .before .before) .2) .0)
-    (λ c. message-fits _ _ (tested (c .before .before .before .before .before .before .before .before .before .before .before .before .before .before .before) .1) (tested (c .before .before .before .before .before .before .before .before .before .before .before .before .before .before .before) .2) .1)
+    (λ c. search needs)
+    (λ c. search needs)
     add-t29
     add-t30
     returns-2)

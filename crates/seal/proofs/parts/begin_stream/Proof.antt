@@ -1,15 +1,14 @@
 -- The calls make KMACXOF256 of an empty message (`StreamAndTag.xof-output`); 32 bytes of it are squeezed, and the lanes go on from byte 32.
 use mathlib.Core.Path.{_≡_, refl, ap, _∙_}
-use Prim.Native.Nat.{ℕ, _+_, _≤_}
-use Rattle.calls.specs.Count.{outputRuns}
+use native.Mathlib.Omega.{arith}
+use borrow.Author.Needs.{needs}
+use Prim.Native.Nat.{ℕ}
 use Rattle.sponge.specs.Running.{running, squeezed, after}
 use Rattle.sponge.proofs.Chain.{then-finish}
-use Rattle.seal.proofs.StreamAndTag.{stream-accepted, stream-runs, stream-few, stream-fits, count-fits, stream-key, stream-text, zeroCode}
+use Rattle.seal.specs.Seal.{keyStreamCall}
+use Rattle.seal.proofs.StreamAndTag.{stream-accepted, xof-runs, stream-key, stream-text, zeroCode}
 use Rattle.seal.proofs.parts.begin_stream.Statement.{statement}
 use Rattle.seal.proofs.parts.begin_stream.Tie as tie
-
-few : (s : tie.After-start-keyed) (o : ℕ) → o ≡ outputRuns (32 + s .before .before .before .before .args .n) → s .start-keyed .result .blocks + 1 + o ≤ 2000000
-few s o e = stream-few _ _ o (s .start-keyed .ensures .few) (s .before .before .before .before .pre .2) e
 
 returns : tie.Need-returns
 returns c =
@@ -31,8 +30,8 @@ returns c =
           ∙ ap (λ (k : ℕ). squeezed k (running a 0)) (f .pre .3)
           ∙ stream-key key iv a (squeeze .last .0) n (squeeze .result) (start .result) (start .ensures) ok e;
       text = stream-text key iv a (squeeze .last .0) n (squeeze .result) (start .result) (start .ensures) ok e (squeeze .ensures .0 ∙ after32);
-      runs = stream-runs key iv n (c .output-runs .result) (start .result) (start .ensures) ok (c .output-runs .ensures);
-      few = few (c .before .before .before .before .before .before .before .before .before .before .before .before .before) (c .output-runs .result) (c .output-runs .ensures);
+      runs = omega (arith, xof-runs (keyStreamCall key iv n) (start .result) (start .ensures) ok, c .output-runs .ensures);
+      few = omega (arith, c .output-runs .ensures, start .ensures .few);
     }
 
 pub begin-stream-spec : {M : Type 1} → statement M
@@ -44,9 +43,9 @@ begin-stream-spec =
     (λ c κs. tt)
     (λ c κs. tt)
     (λ c κs. tt)
-    (λ c. stream-fits _ _ (c .before .before .before .before .before .before .before .before .before .before .before .before .start-keyed .ensures .few) (c .before .before .before .before .before .before .before .before .before .before .before .before .before .before .before .before .pre .2) .0)
-    (λ c. stream-fits _ _ (c .before .before .before .before .before .before .before .before .before .before .before .before .start-keyed .ensures .few) (c .before .before .before .before .before .before .before .before .before .before .before .before .before .before .before .before .pre .2) .1)
+    (λ c. search needs)
+    (λ c. search needs)
     (λ c κs. tt)
-    (λ c. count-fits _ (few (c .before .before .before .before .before .before .before .before .before .before .before .before .before) (c .output-runs .result) (c .output-runs .ensures)))
+    (λ c. search needs)
     (λ c. c .before .before .before .before .squeeze .kept .1 .1 .0)
     returns)
