@@ -32,6 +32,10 @@ module _ (X N S : List ℕ) (n : ℕ) (ok : Accepted (cshake256 X n N S)) (s : S
   pub call-runs : s .blocks + length X / 136 + 1 + outputRuns n ≡ runs (cshake256 X n N S)
   call-runs = omega (arith, runs-by-lengths (cshake256 X n N S), start-blocks (named N S) s h (start-accepted (cshake256 X n N S) ok))
 
+-- a key of 64 bytes is a customisation that is accepted
+pub key-fits : (k : List ℕ) → 64 ≡ length k → length k ≤ maxCustomisation
+key-fits k e = omega arith
+
 -- a piece: its new key, and the beginning of its stream. Of a cut piece the rest is never squeezed
 module _ (additional key : List ℕ) (u : Running) (e : squeezed 272 u ≡ sponge (fed (pieceCall additional key)) 272) where
   pub piece-key : squeezed 64 u ≡ generate additional key .key

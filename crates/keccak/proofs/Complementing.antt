@@ -98,7 +98,13 @@ five b j e0 e1 e2 e3 e4 =
     (ap₂ (λ (xs : List ℕ) (v : ℕ). set xs (j + 2) v)
     (ap₂ (λ (xs : List ℕ) (v : ℕ). set xs (j + 1) v) (ap (set b j) e0) e1) e2) e3) e4
 
-pub all-rows : (b : List ℕ) → length b ≡ 25 → heldChiRow 20 (heldChiRow 15 (heldChiRow 10 (heldChiRow 5 (heldChiRow 0 b)))) ≡ heldChi b
+all-rows : (b : List ℕ) → length b ≡ 25 → heldChiRow 20 (heldChiRow 15 (heldChiRow 10 (heldChiRow 5 (heldChiRow 0 b)))) ≡ heldChi b
 unfolding heldChiRow heldChi complemented masked chi
 all-rows b h =
     subst (λ (xs : List ℕ). heldChiRow 20 (heldChiRow 15 (heldChiRow 10 (heldChiRow 5 (heldChiRow 0 xs)))) ≡ heldChi xs) (sym (written-out b h)) refl
+
+-- the same, of five steps that follow each other
+pub row-by-row : (b r0 r1 r2 r3 r4 : List ℕ) → length b ≡ 25
+    → r0 ≡ heldChiRow 0 b → r1 ≡ heldChiRow 5 r0 → r2 ≡ heldChiRow 10 r1 → r3 ≡ heldChiRow 15 r2 → r4 ≡ heldChiRow 20 r3 → r4 ≡ heldChi b
+row-by-row b r0 r1 r2 r3 r4 h e0 e1 e2 e3 e4 =
+    e4 ∙ ap (heldChiRow 20) (e3 ∙ ap (heldChiRow 15) (e2 ∙ ap (heldChiRow 10) (e1 ∙ ap (heldChiRow 5) e0))) ∙ all-rows b h

@@ -1,4 +1,5 @@
 pub mod Combining
 pub mod StreamAndTag
 pub mod Outcomes
+pub mod Steps
 pub mod RoundTrip

@@ -47,7 +47,7 @@ lengths-accepted key iv text label out tag e =
 
 -- ---- sealing
 
-abbrev answer : ℕ → ℕ → Outcome
+abbrev pub answer : ℕ → ℕ → Outcome
 answer k r = record { number = k; runs = r }
 
 module _ (a : Arguments) (before tag : List ℕ) where

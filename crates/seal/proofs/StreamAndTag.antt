@@ -3,6 +3,8 @@ use mathlib.Core.Path.{_≡_, refl, sym, ap, _∙_}
 use mathlib.Core.List.{List, [], _∷_, _++_}
 use Prim.Native.Nat.{ℕ, _+_, _/_, _%_, _≤_, _<_}
 use native.Mathlib.Omega.{arith}
+use mir.Syntax.{w64}
+use mir.Val.{Fits}
 use borrow.Author.Tests.{le-ltb}
 use lib.ListN.{length, take, drop, length-append}
 use Rattle.encode.specs.Digits.{widthIn}
@@ -20,9 +22,15 @@ use Rattle.start.specs.Started.{Starts}
 use Rattle.start.proofs.Calls.{start-blocks, call-output}
 use Rattle.seal.specs.Seal.{keyStreamCall, keyStream, authenticationKey, textStream}
 
-pub keyed-accepted : (K S : List ℕ) → length K ≤ 4096 → length S ≤ 4096 → startRefusal (keyed K S) ≡ 0
+keyed-accepted : (K S : List ℕ) → length K ≤ 4096 → length S ≤ 4096 → startRefusal (keyed K S) ≡ 0
 unfolding startRefusal
 keyed-accepted K S hk hs = rw (le-ltb _ _ hk, le-ltb _ _ hs)
+
+pub stream-accepted : (K S : List ℕ) → length K ≡ 32 → length S ≤ 4096 → startRefusal (keyed K S) ≡ 0
+stream-accepted K S hk hs = keyed-accepted K S (omega arith) hs
+
+pub tag-accepted : (K : List ℕ) → length K ≤ 4096 → startRefusal (keyed K []) ≡ 0
+tag-accepted K hk = keyed-accepted K [] hk (omega arith)
 
 -- right_encode(0)
 abbrev pub zeroCode : List ℕ
@@ -42,6 +50,30 @@ module _ (c : Call KMACXOF256) (s : Started) (h : Starts (startOf c) s) (ok : st
   xof-runs =
       let two : 2 ≡ length (ending KMACXOF256 (outputOf c)) = ap length (ended (outputOf c)) in
       omega (arith, runs-by-lengths c, start-blocks (startOf c) s h ok, length-ending KMACXOF256 (outputOf c))
+
+-- the tag's count, from those of its parts
+pub tag-runs : (K x l : List ℕ) (n o : ℕ) (s : Started) → Starts (keyed K []) s → startRefusal (keyed K []) ≡ 0 → o ≡ outputRuns n
+    → s .blocks + (length x + length l + 2) / 136 + 1 + o ≡ runs (kmacxof256 K (x ++ l) n [])
+tag-runs K x l n o s h ok e = omega (arith, xof-runs (kmacxof256 K (x ++ l) n []) s h ok, length-append x l)
+
+pub tag-few : (blocks m n o : ℕ) → blocks ≤ 128 → m ≤ 16777216 → n ≤ 64 → o ≡ outputRuns n → blocks + (m + 2) / 136 + 1 + o ≤ 2000000
+tag-few blocks m n o hb hm hn e = omega arith
+
+-- and the sums on the way to it
+pub message-fits : (m : ℕ) → m ≤ 16777216 → Fits w64 m
+message-fits m hm = omega arith
+
+pub ended-fits : (m : ℕ) → m ≤ 16777216 → Fits w64 (m + 2)
+ended-fits m hm = omega arith
+
+pub input-fits : (blocks m : ℕ) → blocks ≤ 128 → m ≤ 16777216 → Fits w64 (blocks + (m + 2) / 136) × Fits w64 (blocks + (m + 2) / 136 + 1)
+input-fits blocks m hb hm = (omega arith, omega arith)
+
+pub count-fits : (r : ℕ) → r ≤ 2000000 → Fits w64 r
+count-fits r h = omega arith
+
+pub counts-fit : (r s : ℕ) → r ≤ 2000000 → s ≤ 2000000 → Fits w64 (r + s)
+counts-fit r s hr hs = omega arith
 
 -- the key stream: 32 bytes, and then n from byte 32 of the first block on
 module _ (key iv a b : List ℕ) (n p : ℕ) (s : Started) (h : Starts (keyed key iv) s) (ok : startRefusal (keyed key iv) ≡ 0)

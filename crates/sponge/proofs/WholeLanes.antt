@@ -150,11 +150,16 @@ length-toBytes zero v = refl
 length-toBytes (suc n) v = ap suc (length-toBytes n (v / 256))
 
 -- n bytes stored, then m bytes
-pub sets-split : (n m v at : ℕ) (l : List ℕ) → sets (sets l at (toBytes n v)) (at + n) (toBytes m (v / 2 ^ (8 * n))) ≡ sets l at (toBytes (n + m) v)
+sets-split : (n m v at : ℕ) (l : List ℕ) → sets (sets l at (toBytes n v)) (at + n) (toBytes m (v / 2 ^ (8 * n))) ≡ sets l at (toBytes (n + m) v)
 sets-split n m v at l =
     ap (λ (k : ℕ). sets (sets l at (toBytes n v)) (at + k) (toBytes m (v / 2 ^ (8 * n)))) (sym (length-toBytes n v))
     ∙ sets-append (toBytes n v) (toBytes m (v / 2 ^ (8 * n))) l at
     ∙ ap (sets l at) (sym (toBytes-append n m v))
+
+-- the same, of two stores that follow each other
+pub both-stored : (n m v at : ℕ) (l p q : List ℕ) → p ≡ sets l at (toBytes n v) → q ≡ sets p (at + n) (toBytes m (v / 2 ^ (8 * n)))
+    → q ≡ sets l at (toBytes (n + m) v)
+both-stored n m v at l p q hp hq = hq ∙ ap (λ (x : List ℕ). sets x (at + n) (toBytes m (v / 2 ^ (8 * n)))) hp ∙ sets-split n m v at l
 
 -- one lane more stored
 pub put-lane-more : (l a : List ℕ) (at i : ℕ) → sets (sets l at (bytesAt a 0 (8 * i))) (at + 8 * i) (toBytes 8 (getD a i 0)) ≡ sets l at (bytesAt a 0 (8 * (i + 1)))

@@ -1,11 +1,11 @@
 -- The number is the first that applies; past it the calls make the input of the definition's cSHAKE256 call, whose 64 bytes are the new key
 -- (`Calls.call-output`), and the count is the sum of their permutations.
-use mathlib.Core.Path.{_≡_, sym, ap, _∙_}
+use mathlib.Core.Path.{_≡_, refl, sym, ap, _∙_}
 use mathlib.Core.List.{_++_}
 use Prim.Native.Nat.{_+_, _≤_}
 use native.Mathlib.Nat.{mod-eq-of-lt}
-use native.Mathlib.Omega.{arith}
 use borrow.Author.Needs.{needs}
+use native.Mathlib.Omega.{arith}
 use lib.ListN.{length, length-append}
 use Rattle.encode.specs.Encode.{lengthSuffixed}
 use Rattle.alike.specs.Seeding.{seedName, seedMessage, seedRefusal}
@@ -13,7 +13,7 @@ use Rattle.alike.specs.Laws.{seedCall-accepted}
 use Rattle.sponge.specs.Running.{running}
 use Rattle.sponge.proofs.Chain.{then-absorb}
 use Rattle.generator.specs.Seed.{seeding}
-use Rattle.generator.proofs.Calls.{call-output, call-runs}
+use Rattle.generator.proofs.Calls.{call-output, call-runs, key-fits}
 use Rattle.generator.proofs.Answers.{seed-refused, seed-accepted, seed-limits}
 use Rattle.generator.proofs.seed.Statement.{statement}
 use Rattle.generator.proofs.seed.Tie as tie
@@ -59,7 +59,7 @@ returns-2 c =
     let second = c .before .before .before .before .before .before .before .absorb-encoded in
     let end = c .before .before .before .before .before .finish in
     let squeeze = c .before .before .squeeze in
-    let ok = seedCall-accepted (seeding key x p) (omega (arith, key-length (c .before .before .before .before .before .before .before .before .before .before .before .before .before))) (past .0) in
+    let ok = seedCall-accepted (seeding key x p) (key-fits key (key-length (c .before .before .before .before .before .before .before .before .before .before .before .before .before))) (past .0) in
     let input = then-absorb (running (start .result .lanes) 0) (first .last .0) (second .last .0) x (lengthSuffixed p) (first .result) (second .result)
     (ap (running (first .last .0)) (mod-eq-of-lt (first .ensures .1)) ∙ first .ensures .0) (second .ensures .0) in
     let given = call-output (seedMessage (seeding key x p)) seedName key 64 ok (start .result) (start .ensures) (second .last .0) (end .last .0) (second .result) input (second .ensures .1) (end .ensures) in
@@ -71,17 +71,17 @@ pub seed-spec : {M : Type 1} → statement M
 seed-spec =
     tie.close
     (tie.spec
-    (λ c κs. search needs)
-    (λ c κs. search needs)
+    (λ c κs. tt)
+    (λ c κs. tt)
     returns
-    (λ c. search needs)
+    (λ c. refl)
     key-length
-    (λ c κs. search needs)
-    (λ c κs. search needs)
+    (λ c κs. tt)
+    (λ c κs. tt)
     absorb-encoded-requires
-    (λ c κs. search needs)
-    (λ c. search needs)
-    (λ c κs. search needs)
+    (λ c κs. tt)
+    (λ c. refl)
+    (λ c κs. tt)
     (λ c. search needs)
     (λ c. search needs)
     add-t29

@@ -1,11 +1,12 @@
 -- The loop's invariant: after i turns the state held is that after the first 2 i rounds, complemented. Complementing twice changes nothing, so it
 -- falls away at the end.
-use mathlib.Core.Path.{_≡_, refl, sym, _∙_, ap}
-use Prim.Native.Nat.{_≤_, _-_, _*_, suc, _+_}
+use mathlib.Core.Path.{_≡_, refl, sym, _∙_, ap, ap₂}
+use mathlib.Core.List.{List}
+use Prim.Native.Nat.{ℕ, _≤_, _-_, _*_, suc, _+_}
 use native.Mathlib.Omega.{arith}
 use lib.ListN.{length}
 use borrow.Author.Needs.{needs}
-use Rattle.keccak.specs.Fips202.{round, rounds, keccakP}
+use Rattle.keccak.specs.Fips202.{theta, rho, pi, chi, iota, roundConstant, round, rounds, keccakP}
 use Rattle.keccak.specs.Complemented.{complemented}
 use Rattle.keccak.proofs.RoundConstants.{constants-are}
 use Rattle.keccak.proofs.Complementing.{complemented-twice}
@@ -29,13 +30,24 @@ loop-holds : tie.Need-loop-holds Inv-loop μ-loop
 unfolding rounds
 loop-holds c = (search needs, refl)
 
-loop-again : tie.Need-loop-again Inv-loop μ-loop
+-- two rounds after the first 2 i
+two-more : (s n a : List ℕ) (i k l : ℕ) → complemented s ≡ rounds (2 * i) a → k ≡ roundConstant (2 * i) → l ≡ roundConstant (2 * i + 1)
+    → complemented n ≡ iota l (chi (pi (rho (theta (iota k (chi (pi (rho (theta (complemented s))))))))))
+    → complemented n ≡ rounds (2 * (i + 1)) a
 unfolding rounds round
-loop-again c =
-    let i = c .before .before .loop .i in
+two-more s n a i k l hs hk hl hn =
+    let step : ℕ → List ℕ → List ℕ = λ m xs. iota m (chi (pi (rho (theta xs)))) in
     let e : 2 * (i + 1) ≡ suc (suc (2 * i)) = omega arith in
     let d : 2 * i + 1 ≡ suc (2 * i) = omega arith in
-    (omega arith, rw e (cc (constants-are (2 * i) (omega arith), constants-are (2 * i + 1) (omega arith), d)))
+    hn ∙ ap₂ step (hl ∙ ap roundConstant d) (ap₂ step hk hs) ∙ sym (ap (λ m. rounds m a) e)
+
+loop-again : tie.Need-loop-again Inv-loop μ-loop
+loop-again c =
+    let k = c .before .before .loop in
+    let i = k .i in (
+      omega arith,
+      two-more (k .s) _ _ i _ _ (k .inv .1) (constants-are (2 * i) (omega arith)) (constants-are (2 * i + 1) (omega arith)) (c .two-rounds .ensures),
+    )
 
 returns : tie.Need-returns Inv-loop μ-loop
 unfolding keccakP

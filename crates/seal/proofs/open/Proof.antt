@@ -1,21 +1,16 @@
--- Past the lengths' number the tag is worked out afresh and compared; only then is the text combined with the stream (`Outcomes`).
-use mathlib.Core.Path.{_≡_, refl, sym, ap, ap₂, _∙_}
-use mathlib.Core.Bool.{true, false}
-use mathlib.Core.List.{List, [], _++_}
-use Prim.Native.Nat.{ℕ, _+_, _≤_}
+-- Past the lengths' number the tag is worked out afresh and compared; only then is the text combined with the stream (`Steps.opens`).
+use mathlib.Core.Path.{_≡_, refl, sym, _∙_}
+use Prim.Native.Nat.{_+_, _≤_}
 use native.Mathlib.Omega.{arith}
 use borrow.Author.Needs.{needs}
-use lib.ListN.{length, take}
+use lib.ListN.{length}
 use lib.Seq.{length-take-le}
 use Rattle.calls.specs.Start.{sameBytes}
-use Rattle.calls.specs.Call.{kmacxof256, fed}
-use Rattle.calls.specs.Count.{runs}
 use Rattle.calls.specs.Laws.Refusal.{sameBytes-is}
-use Rattle.sponge.specs.Sponge.{sponge}
-use Rattle.sponge.specs.Running.{running, squeezed}
-use Rattle.seal.specs.KeyStream.{combined}
-use Rattle.seal.specs.Seal.{Arguments, converted, tagOf, sealRuns}
-use Rattle.seal.proofs.Outcomes.{lengths-accepted, open-refused, open-mismatch, open-accepted, tag-cut, tag-runs}
+use Rattle.seal.specs.Seal.{Arguments, tagOf}
+use Rattle.seal.proofs.StreamAndTag.{counts-fit}
+use Rattle.seal.proofs.Outcomes.{lengths-accepted, open-refused, open-mismatch}
+use Rattle.seal.proofs.Steps.{compares, opens}
 use Rattle.seal.proofs.open.Statement.{statement}
 use Rattle.seal.proofs.open.Tie as tie
 
@@ -56,40 +51,32 @@ slice-aggregate-same c =
 
 -- the comparison is the definition's
 same-is : (c : tie.After-same) → c .same .result ≡ sameBytes (c .before .before .before .before .before .before .before .before .before .before .before .before .before .before .before .before .before .args .tag .now) (tagOf (arguments (c .before .before .before .before .before .before .before .before .before .before .before .before .before .before .before .before .before)) (c .before .before .before .before .before .before .before .before .before .before .before .before .before .before .before .before .before .args .ciphertext .now) (length (c .before .before .before .before .before .before .before .before .before .before .before .before .before .before .before .before .before .args .tag .now)))
-unfolding tagOf
 same-is c =
-    let s = c .before .before .before .before .before .before .before .before .before .before .before .before .before .before .before .before .before in
-    let a = arguments s in
-    let n = length (s .args .tag .now) in
-    let made = c .before .before .before .make-tag in
-    let stream = c .before .before .before .before .before .before .before .begin-stream in
-    let expected : made .last .1 .1 .1 .0 ≡ tagOf a (a .text) 64
-    = made .ensures .tag ∙ ap (λ (k : List ℕ). sponge (fed (kmacxof256 k (a .text ++ a .label) 64 [])) 64) (stream .ensures .authentication) in
-    sameBytes-is (c .same .result) (s .args .tag .now) (take n (made .last .1 .1 .1 .0)) (c .same .ensures)
-    ∙ ap (sameBytes (s .args .tag .now)) (ap (take n) expected ∙ tag-cut a (a .text) n (fits (c .before .before .before .before .before .before .before .before .before) .5))
+    let made = c .before .before .before in
+    let f = made .before .before .before .before in
+    let past = f .before .before in
+    let s = past .before .before .before .before .before .before .before .before in
+    compares (arguments s) (f .begin-stream .last .1 .1 .1 .0) (f .begin-stream .result) (f .begin-stream .ensures)
+    (s .args .tag .now) (made .make-tag .last .1 .1 .1 .0) (made .make-tag .result) (made .make-tag .ensures) (fits past .5)
+    (c .same .result) (sameBytes-is (c .same .result) (s .args .tag .now) _ (c .same .ensures))
 
 combine-requires : tie.Need-combine-requires
 combine-requires c κs = c .before .before .before .squeeze .kept .1 .1 .0 ∙ fits (c .before .before .before .before .before .before .before .before .before .before .before .before .before .before .before .before .before) .3
 
 returns-2 : tie.Need-returns-2
-unfolding converted sealRuns
 returns-2 c =
-    let s = c .before .before .before .before .before .before .before .before .before .before .before .before .before .before .before .before .before .before .before .before .before .before .before .before .before .before .before .before .before in
-    let a = arguments s in
-    let t = length (s .args .tag .now) in
-    let f = fits (c .before .before .before .before .before .before .before .before .before .before .before .before .before .before .before .before .before .before .before .before .before) in
-    let stream = c .before .before .before .before .before .before .before .before .before .before .before .before .before .before .before .before .before .before .before .begin-stream in
-    let made = c .before .before .before .before .before .before .before .before .before .before .before .before .before .before .before .make-tag in
-    let squeeze = c .before .before .before .before .before .before .before .squeeze in
-    let combine = c .before .before .before .combine in
-    let out : combine .last .1 .0 ≡ converted a
-    = combine .ensures
-    ∙ ap (combined (a .text)) (squeeze .ensures .1 ∙ ap (λ (k : ℕ). squeezed k (running (stream .result .lanes) 32)) (f .3) ∙ stream .ensures .text) in
-    let counted : stream .result .runs + made .result ≡ sealRuns a (a .text) t
-    = ap₂ (λ (x y : ℕ). x + y) (stream .ensures .runs)
-    (made .ensures .runs ∙ ap (λ (k : List ℕ). runs (kmacxof256 k (a .text ++ a .label) 64 [])) (stream .ensures .authentication) ∙ tag-runs a (a .text) t (f .4) (f .5)) in
-    open-accepted a (s .args .out .now) (s .args .tag .now) (sym (c .before .before .before .before .before .before .before .before .before .before .before .before .before .before .before .before .before .before .before .before .before .if1 .left) ∙ c .before .before .before .before .before .before .before .before .before .before .before .before .before .before .before .before .before .before .before .before .before .before .lengths-refusal .ensures)
-    (stream .result .runs + made .result) (combine .last .1 .0) (sym (same-is (c .before .before .before .before .before .before .before .before .before .before .before .before)) ∙ c .before .before .before .before .before .before .before .before .before .before .before .if2 .taken) counted out
+    let b = c .before .before .before in
+    let q = b .before .before .before .before in
+    let same = q .before .before .before .before in
+    let made = same .before .before .before .before in
+    let f = made .before .before .before .before in
+    let past = f .before .before in
+    let s = past .before .before .before .before .before .before .before .before in
+    opens (arguments s) (f .begin-stream .last .1 .1 .1 .0) (f .begin-stream .result) (f .begin-stream .ensures)
+    (s .args .tag .now) (made .make-tag .last .1 .1 .1 .0) (made .make-tag .result) (made .make-tag .ensures) (fits past .5)
+    (s .args .out .now) (q .squeeze .last .1 .1 .0) (b .combine .last .1 .0)
+    (sym (past .if1 .left) ∙ past .before .lengths-refusal .ensures) (fits past .3) (fits past .4)
+    (q .squeeze .ensures .1) (b .combine .ensures) (sym (same-is (same .before)) ∙ same .if2 .taken)
 
 returns-3 : tie.Need-returns-3
 returns-3 c =
@@ -101,19 +88,19 @@ pub open-spec : {M : Type 1} → statement M
 open-spec =
     tie.close
     (tie.spec
-    (λ c κs. search needs)
+    (λ c κs. tt)
     returns
-    (λ c. search needs)
+    (λ c. refl)
     begin-stream-requires
     (λ c. search needs)
-    (λ c. search needs)
+    (λ c. refl)
     make-tag-requires
     array-share-prefix-expected
     slice-aggregate-same
-    (λ c κs. search needs)
-    (λ c κs. search needs)
+    (λ c κs. tt)
+    (λ c κs. tt)
     combine-requires
-    (λ c. search needs)
-    (λ c. search needs)
+    (λ c. counts-fit _ _ (c .before .before .before .before .before .before .before .before .before .before .before .before .before .before .before .before .before .before .before .begin-stream .ensures .few) (c .before .before .before .before .before .before .before .before .before .before .before .before .before .before .before .make-tag .ensures .few))
+    (λ c. c .before .before .before .combine .kept .1 .0 ∙ c .before .before .before .before .before .before .before .squeeze .kept .1 .1 .0)
     returns-2
     returns-3)

@@ -1,17 +1,13 @@
--- Past the lengths' number the parts make the stream, the ciphertext and the tag; their contracts are the definition's steps (`Outcomes`).
-use mathlib.Core.Path.{_≡_, refl, sym, ap, ap₂, _∙_}
-use mathlib.Core.List.{List, [], _++_}
-use Prim.Native.Nat.{ℕ, _+_, _≤_}
+-- Past the lengths' number the parts make the stream, the ciphertext and the tag; their contracts are the definition's steps (`Steps.seals`).
+use mathlib.Core.Path.{_≡_, refl, sym, _∙_}
+use Prim.Native.Nat.{_+_, _≤_}
 use native.Mathlib.Omega.{arith}
 use borrow.Author.Needs.{needs}
 use lib.ListN.{length}
-use Rattle.calls.specs.Call.{kmacxof256, fed}
-use Rattle.calls.specs.Count.{runs}
-use Rattle.sponge.specs.Sponge.{sponge}
-use Rattle.sponge.specs.Running.{running, squeezed}
-use Rattle.seal.specs.KeyStream.{combined}
-use Rattle.seal.specs.Seal.{Arguments, converted, tagOf, sealRuns}
-use Rattle.seal.proofs.Outcomes.{lengths-accepted, seal-refused, seal-accepted}
+use Rattle.seal.specs.Seal.{Arguments}
+use Rattle.seal.proofs.StreamAndTag.{counts-fit}
+use Rattle.seal.proofs.Outcomes.{lengths-accepted, seal-refused}
+use Rattle.seal.proofs.Steps.{seals}
 use Rattle.seal.proofs.seal.Statement.{statement}
 use Rattle.seal.proofs.seal.Tie as tie
 
@@ -46,41 +42,30 @@ make-tag-requires c κs =
     (omega arith, omega (arith, f .2, f .3), f .5)
 
 returns-2 : tie.Need-returns-2
-unfolding converted tagOf sealRuns
 returns-2 c =
-    let s = c .before .before .before .before .before .before .before .before .before .before .before .before .before .before .before .before .before .before .before .before .before .before .before .before .before .before .before .before in
-    let a = arguments s in
-    let t = length (s .args .tag .now) in
-    let f = fits (c .before .before .before .before .before .before .before .before .before .before .before .before .before .before .before .before .before .before .before .before) in
-    let stream = c .before .before .before .before .before .before .before .before .before .before .before .before .before .before .before .before .before .before .begin-stream in
-    let squeeze = c .before .before .before .before .before .before .before .before .before .before .before .before .before .squeeze in
-    let combine = c .before .before .before .before .before .before .before .before .before .combine in
-    let tag = c .before .before .before .make-tag in
-    let n = length (a .text) in
-    let out : combine .last .1 .0 ≡ converted a
-    = combine .ensures
-    ∙ ap (combined (a .text)) (squeeze .ensures .1 ∙ ap (λ (k : ℕ). squeezed k (running (stream .result .lanes) 32)) (f .3) ∙ stream .ensures .text) in
-    let made : tag .last .1 .1 .1 .0 ≡ tagOf a (converted a) t
-    = tag .ensures .tag ∙ ap₂ (λ (k x : List ℕ). sponge (fed (kmacxof256 k (x ++ a .label) t [])) t) (stream .ensures .authentication) out in
-    let counted : stream .result .runs + tag .result ≡ sealRuns a (converted a) t
-    = ap₂ (λ (x y : ℕ). x + y) (stream .ensures .runs)
-    (tag .ensures .runs ∙ ap₂ (λ (k x : List ℕ). runs (kmacxof256 k (x ++ a .label) t [])) (stream .ensures .authentication) out) in
-    seal-accepted a (s .args .out .now) (s .args .tag .now) (stream .result .runs + tag .result) (combine .last .1 .0) (tag .last .1 .1 .1 .0)
-    (sym (c .before .before .before .before .before .before .before .before .before .before .before .before .before .before .before .before .before .before .before .before .if1 .left) ∙ c .before .before .before .before .before .before .before .before .before .before .before .before .before .before .before .before .before .before .before .before .before .lengths-refusal .ensures) counted out made
+    let m = c .before .before .before in
+    let b = m .before .before .before .before .before .before in
+    let q = b .before .before .before .before in
+    let f = q .before .before .before .before .before in
+    let past = f .before .before in
+    let s = past .before .before .before .before .before .before .before .before in
+    seals (arguments s) (f .begin-stream .last .1 .1 .1 .0) (f .begin-stream .result) (f .begin-stream .ensures)
+    (s .args .out .now) (s .args .tag .now) (q .squeeze .last .1 .1 .0) (b .combine .last .1 .0) (m .make-tag .last .1 .1 .1 .0) (m .make-tag .result)
+    (sym (past .if1 .left) ∙ past .before .lengths-refusal .ensures) (fits past .3) (q .squeeze .ensures .1) (b .combine .ensures) (m .make-tag .ensures)
 
 pub seal-spec : {M : Type 1} → statement M
 seal-spec =
     tie.close
     (tie.spec
-    (λ c κs. search needs)
+    (λ c κs. tt)
     returns
-    (λ c. search needs)
+    (λ c. refl)
     begin-stream-requires
-    (λ c κs. search needs)
+    (λ c κs. tt)
     combine-requires
     (λ c. search needs)
     make-tag-requires
-    (λ c. search needs)
-    (λ c. search needs)
-    (λ c. search needs)
+    (λ c. counts-fit _ _ (c .before .before .before .before .before .before .before .before .before .before .before .before .before .before .before .before .before .before .begin-stream .ensures .few) (c .before .before .before .make-tag .ensures .few))
+    (λ c. c .before .before .before .before .before .before .before .before .before .combine .kept .1 .0 ∙ c .before .before .before .before .before .before .before .before .before .before .before .before .before .squeeze .kept .1 .1 .0)
+    (λ c. c .before .before .before .make-tag .kept .1 .1 .1 .0)
     returns-2)

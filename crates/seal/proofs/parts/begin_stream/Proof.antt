@@ -1,14 +1,12 @@
 -- The calls make KMACXOF256 of an empty message (`StreamAndTag.xof-output`); 32 bytes of it are squeezed, and the lanes go on from byte 32.
-use mathlib.Core.Path.{_≡_, sym, ap, _∙_}
+use mathlib.Core.Path.{_≡_, refl, ap, _∙_}
 use native.Mathlib.Omega.{arith}
 use borrow.Author.Needs.{needs}
-use lib.ListN.{length}
-use Prim.Native.Nat.{ℕ, _≤_}
-use Rattle.calls.specs.Start.{keyed}
-use Rattle.sponge.specs.Running.{Running, running, squeezed, after}
+use Prim.Native.Nat.{ℕ}
+use Rattle.sponge.specs.Running.{running, squeezed, after}
 use Rattle.sponge.proofs.Chain.{then-finish}
 use Rattle.seal.specs.Seal.{keyStreamCall}
-use Rattle.seal.proofs.StreamAndTag.{keyed-accepted, xof-runs, stream-key, stream-text, zeroCode}
+use Rattle.seal.proofs.StreamAndTag.{stream-accepted, xof-runs, stream-key, stream-text, zeroCode}
 use Rattle.seal.proofs.parts.begin_stream.Statement.{statement}
 use Rattle.seal.proofs.parts.begin_stream.Tie as tie
 
@@ -22,7 +20,7 @@ returns c =
     let key = f .args .key .now in
     let iv = f .args .iv .now in
     let n = f .args .n in
-    let ok = keyed-accepted key iv (omega arith) (omega arith) in
+    let ok = stream-accepted key iv (f .pre .0) (f .pre .1) in
     let a = finish .last .0 in
     let e = then-finish (running (start .result .lanes) 0) (absorb .last .0) a zeroCode (absorb .result) (absorb .ensures .0) (absorb .ensures .1) (start .result .suffix) (finish .ensures) in
     let after32 = ap (λ (k : ℕ). after k (running a 0)) (f .pre .3) in
@@ -40,14 +38,14 @@ pub begin-stream-spec : {M : Type 1} → statement M
 begin-stream-spec =
     tie.close
     (tie.spec
-    (λ c κs. search needs)
-    (λ c. search needs)
-    (λ c κs. search needs)
-    (λ c κs. search needs)
-    (λ c κs. search needs)
-    (λ c. search needs)
-    (λ c. search needs)
-    (λ c κs. search needs)
+    (λ c κs. tt)
+    (λ c. refl)
+    (λ c κs. tt)
+    (λ c κs. tt)
+    (λ c κs. tt)
     (λ c. search needs)
     (λ c. search needs)
+    (λ c κs. tt)
+    (λ c. search needs)
+    (λ c. c .before .before .before .before .squeeze .kept .1 .1 .0)
     returns)

@@ -1,5 +1,5 @@
--- The law that joins two stores of bytes (`WholeLanes.sets-split`), at 2 and 2.
-use Rattle.sponge.proofs.WholeLanes.{sets-split}
+-- The law that joins two stores of bytes (`WholeLanes.both-stored`), at 2 and 2.
+use Rattle.sponge.proofs.WholeLanes.{both-stored}
 use borrow.Author.Needs.{needs}
 use Rattle.sponge.proofs.lanes.store4.Statement.{statement}
 use Rattle.sponge.proofs.lanes.store4.Tie as tie
@@ -19,7 +19,7 @@ same-length c = search needs
 returns : tie.Need-returns
 returns c =
     let a = c .before .before .before .before .before .before .before .before .before .args in
-    cc (sets-split 2 2 (a .v) (a .at) (a .out .now))
+    both-stored 2 2 (a .v) (a .at) (a .out .now) _ _ (c .before .before .before .before .before .before .store2 .ensures) (c .before .before .store22 .ensures)
 
 pub store4-spec : {M : Type 1} → statement M
 store4-spec = tie.close (tie.spec store2-requires add-store2 store2-requires-2 same-length returns)

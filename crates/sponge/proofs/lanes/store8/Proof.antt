@@ -1,5 +1,5 @@
--- The law that joins two stores of bytes (`WholeLanes.sets-split`), at 4 and 4.
-use Rattle.sponge.proofs.WholeLanes.{sets-split}
+-- The law that joins two stores of bytes (`WholeLanes.both-stored`), at 4 and 4.
+use Rattle.sponge.proofs.WholeLanes.{both-stored}
 use borrow.Author.Needs.{needs}
 use Rattle.sponge.proofs.lanes.store8.Statement.{statement}
 use Rattle.sponge.proofs.lanes.store8.Tie as tie
@@ -19,7 +19,7 @@ same-length c = search needs
 returns : tie.Need-returns
 returns c =
     let a = c .before .before .before .before .before .before .before .before .before .args in
-    cc (sets-split 4 4 (a .v) (a .at) (a .out .now))
+    both-stored 4 4 (a .v) (a .at) (a .out .now) _ _ (c .before .before .before .before .before .before .store4 .ensures) (c .before .before .store42 .ensures)
 
 pub store8-spec : {M : Type 1} → statement M
 store8-spec = tie.close (tie.spec store4-requires add-store4 store4-requires-2 same-length returns)
