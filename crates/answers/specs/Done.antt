@@ -1,0 +1,16 @@
+-- What a call hands back beside its number: the new value where the number is 0, and the old one on a refusal, so that a refusal changes nothing.
+use Prim.Native.Nat.{ℕ, zero, suc}
+use Rattle.answers.specs.declared.Outcome.{Outcome}
+
+abbrev pub ifDone : {A : Type 0} → ℕ → (new old : A) → A
+ifDone zero new old = new
+ifDone (suc k) new old = old
+
+-- the first of two numbers, unless it is 0: the smaller of the two where the second is not below the first
+abbrev pub firstOf : ℕ → ℕ → ℕ
+firstOf zero later = later
+firstOf (suc k) later = suc k
+
+-- the number k and the runs of the call, which count only where it is 0
+abbrev pub outcomeOf : ℕ → ℕ → Outcome
+outcomeOf k runs = record { number = k; runs = ifDone k runs 0 }
