@@ -5,10 +5,11 @@ use mathlib.Core.List.{List, [], _∷_, _++_}
 use Prim.Native.Nat.{ℕ}
 use lib.Dec.{ltb}
 use lib.ListN.{length}
+use Rattle.answers.specs.Done.{ifDone}
 use Rattle.encode.specs.Encode.{lengthSuffixed}
 use Rattle.calls.specs.Limits.{maxPersonalisation, maxSeed}
 use Rattle.calls.specs.Call.{Call, cSHAKE256, cshake256}
-use Rattle.calls.specs.Count.{runs, reportedWith}
+use Rattle.calls.specs.Count.{runs}
 
 -- the old key, the seed and the personalisation
 pub record Seeding : Type 0 where
@@ -38,4 +39,4 @@ SeedingAccepted s = seedRefusal s ≡ 0
 
 -- the count that a seeding reports
 unfoldable pub seedCount : Seeding → ℕ
-seedCount s = reportedWith (seedRefusal s) (runs (seedCall s))
+seedCount s = ifDone (seedRefusal s) (runs (seedCall s)) 0

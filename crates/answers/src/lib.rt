@@ -34,8 +34,9 @@ pub const MALFORMED_PLAN: u8 = 9;
 // The plan has no such chute.
 pub const NO_SUCH_CHUTE: u8 = 10;
 
-// The number that a call is answered with, and the permutations it took: 0 on a refusal.
+// The permutations that a call took, 0 on a refusal, and its number; as C has it too.
+#[repr(C)]
 pub struct Outcome {
-    pub number: u8,
     pub runs: usize,
+    pub number: u8,
 }

@@ -3,9 +3,11 @@
 use mathlib.Core.Path.{_≡_}
 use mathlib.Core.Bool.{cond}
 use mathlib.Core.List.{List, [], _++_}
-use Prim.Native.Nat.{ℕ, zero, suc, _*_}
+use Prim.Native.Nat.{ℕ, _*_}
 use lib.Dec.{ltb, eqb}
 use lib.ListN.{length}
+use Rattle.answers.specs.Numbers.{done, inputTooLong, badOutputLength}
+use Rattle.answers.specs.Done.{firstOf}
 use Rattle.encode.specs.Encode.{encodeString, rightEncode, bytepad, KMAC}
 use Rattle.calls.specs.Limits.{maxMessage, maxOutput}
 use Rattle.calls.specs.Input.{Input, fedBytes}
@@ -30,32 +32,27 @@ messageOf (cshake256 X n N S) = X
 messageOf (kmac256 K X n S) = X
 messageOf (kmacxof256 K X n S) = X
 
-abbrev pub outputOf : {f : Function} → Call f → ℕ
-outputOf (cshake256 X n N S) = n
-outputOf (kmac256 K X n S) = n
-outputOf (kmacxof256 K X n S) = n
+abbrev pub outputBytes : {f : Function} → Call f → ℕ
+outputBytes (cshake256 X n N S) = n
+outputBytes (kmac256 K X n S) = n
+outputBytes (kmacxof256 K X n S) = n
 
 -- Refusals
 
 -- 5 of the table, for a message of m bytes
 abbrev pub messageRefusal : ℕ → ℕ
-messageRefusal m = cond (ltb maxMessage m) 5 0
+messageRefusal m = cond (ltb maxMessage m) inputTooLong done
 
 -- 6 of the table, for an output of n bytes
 abbrev pub outputRefusal : Function → ℕ → ℕ
-outputRefusal cSHAKE256 n = cond (ltb maxOutput n) 6 0
-outputRefusal KMAC256 n = cond (ltb maxOutput n) 6 (cond (eqb n 0) 6 0)
-outputRefusal KMACXOF256 n = cond (ltb maxOutput n) 6 0
-
--- the first of two numbers, unless it is 0
-abbrev pub firstOf : ℕ → ℕ → ℕ
-firstOf zero later = later
-firstOf (suc k) later = suc k
+outputRefusal cSHAKE256 n = cond (ltb maxOutput n) badOutputLength done
+outputRefusal KMAC256 n = cond (ltb maxOutput n) badOutputLength (cond (eqb n 0) badOutputLength done)
+outputRefusal KMACXOF256 n = cond (ltb maxOutput n) badOutputLength done
 
 -- the number that a call is answered with, the smallest that applies: the start's, then 5, then 6
 unfoldable pub refusal : {f : Function} → Call f → ℕ
 refusal {f} c =
-    firstOf (startRefusal (startOf c)) (firstOf (messageRefusal (length (messageOf c))) (outputRefusal f (outputOf c)))
+    firstOf (startRefusal (startOf c)) (firstOf (messageRefusal (length (messageOf c))) (outputRefusal f (outputBytes c)))
 
 abbrev pub Accepted : {f : Function} → Call f → Type 0
 Accepted c = refusal c ≡ 0

@@ -7,7 +7,7 @@ use Rattle.encode.specs.Digits.{widthIn}
 use Rattle.encode.specs.Encode.{KMAC}
 use Rattle.calls.specs.Start.{named, keyed, startRefusal}
 use Rattle.calls.specs.Call.{Function, cSHAKE256, KMAC256, KMACXOF256, cshake256, kmac256, kmacxof256, messageRefusal, outputRefusal, refusal}
-use Rattle.calls.specs.Count.{outputRuns, runs, count}
+use Rattle.calls.specs.Count.{outputRuns, runs, reportedRuns}
 use Rattle.calls.specs.Laws.Runs.{cshakeBlocks, runs-by-lengths}
 use Rattle.encode.specs.Laws.Lengths.{blocks, stringLength}
 
@@ -57,10 +57,10 @@ pub record CallRefusals : Type 0 where
   pub cshakeEmpty : refusal (cshake256 [] 0 [] []) ≡ 0
   pub kmacEmpty : refusal (kmac256 [] [] 0 []) ≡ 6
   pub kmacxofEmpty : refusal (kmacxof256 [] [] 0 []) ≡ 0
-  pub noCount : count (kmac256 [] [] 0 []) ≡ 0
+  pub noCount : reportedRuns (kmac256 [] [] 0 []) ≡ 0
 
 pub callRefusals : CallRefusals
-unfolding refusal startRefusal count
+unfolding refusal startRefusal reportedRuns
 callRefusals =
     record {
       message = refl;

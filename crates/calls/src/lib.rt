@@ -5,6 +5,10 @@
 ghost use mathlib.Core.Path.{_≡_};
 ghost use Rattle.calls.specs.Start.{named, keyed, startRefusal};
 ghost use Rattle.calls.specs.Count.{outputRuns};
+use answers::BAD_KEY_LENGTH;
+use answers::DONE;
+use answers::RESERVED_NAME;
+use answers::STRING_TOO_LONG;
 
 // The limits of document 01's table, as specs/Limits.antt has them.
 pub const MAX_KEY: usize = 4096;
@@ -26,15 +30,15 @@ pub fn named_refusal(name: &[u8], customisation: &[u8]) -> u8
     ensures { λ r. ⌜ r ≡ startRefusal (named (now (name .entry)) (now (customisation .entry))) ⌝ }
 {
     if MAX_NAME < name.len() {
-        return 3;
+        return STRING_TOO_LONG;
     }
     if MAX_CUSTOMISATION < customisation.len() {
-        return 3;
+        return STRING_TOO_LONG;
     }
     if check::same(name, &KMAC) {
-        return 4;
+        return RESERVED_NAME;
     }
-    0
+    DONE
 }
 
 // The number that KMAC256 and KMACXOF256 with this key and this customisation are refused with, or 0.
@@ -42,12 +46,12 @@ pub fn keyed_refusal(key: &[u8], customisation: &[u8]) -> u8
     ensures { λ r. ⌜ r ≡ startRefusal (keyed (now (key .entry)) (now (customisation .entry))) ⌝ }
 {
     if MAX_KEY < key.len() {
-        return 2;
+        return BAD_KEY_LENGTH;
     }
     if MAX_CUSTOMISATION < customisation.len() {
-        return 3;
+        return STRING_TOO_LONG;
     }
-    0
+    DONE
 }
 
 // The share that an output of this many bytes has in the permutations.

@@ -7,13 +7,13 @@ use native.Mathlib.Omega.{arith}
 use borrow.Author.Tests.{ltb-false}
 use lib.Dec.{ltb}
 use lib.ListN.{length}
+use Rattle.answers.specs.Done.{ifDone}
 use Rattle.calls.specs.Limits.{maxPersonalisation, maxAdditional, maxSeed, maxOutput}
 use Rattle.calls.specs.Call.{fed}
 use Rattle.calls.specs.Count.{runs}
 use Rattle.calls.specs.Laws.Refusal.{test-passed}
 use Rattle.alike.specs.Seeding.{Seeding, seedCall, seedRefusal, seedCount}
 use Rattle.sponge.specs.Sponge.{sponge}
-use Rattle.hash.specs.Outcome.{writtenWith}
 use Rattle.pieces.specs.Pieces.{Generated, pieces, drawn}
 use Rattle.generator.specs.declared.Generator.{Generator}
 use Rattle.generator.specs.Seed.{holding, refused, answerWith, seeding, seedAnswer}
@@ -24,7 +24,7 @@ refused-with : (k n : ℕ) (after before : Generator) → (k ≡ 0 → ⊥) → 
 refused-with zero n after before some = absurd (some refl)
 refused-with (suc k) n after before some = refl
 
-unwritten : (k : ℕ) (answer before : List ℕ) → (k ≡ 0 → ⊥) → before ≡ writtenWith k answer before
+unwritten : (k : ℕ) (answer before : List ℕ) → (k ≡ 0 → ⊥) → before ≡ ifDone k answer before
 unwritten zero answer before some = absurd (some refl)
 unwritten (suc k) answer before some = refl
 
@@ -72,7 +72,7 @@ module _ (g : Generator) (a before : List ℕ) where
   draw-refused k e some = (
     refused-with k (drawRuns (length before)) (holding (all .key)) g some
         ∙ ap (λ (j : ℕ). answerWith j (drawRuns (length before)) (holding (all .key)) g) e,
-    unwritten k (all .stream) before some ∙ ap (λ (j : ℕ). writtenWith j (all .stream) before) e,
+    unwritten k (all .stream) before some ∙ ap (λ (j : ℕ). ifDone j (all .stream) before) e,
   )
 
   pub draw-accepted : (m : ℕ) (key out : List ℕ) → number ≡ 0 → m ≡ pieces (length before) → key ≡ all .key → out ≡ all .stream
@@ -81,7 +81,7 @@ module _ (g : Generator) (a before : List ℕ) where
   draw-accepted m key out ok counted moved given = (
     (λ i. record { number = 0; runs = 3 * counted i; generator = record { key = moved i; seeded = true } })
         ∙ sym (ap (λ (j : ℕ). answerWith j (drawRuns (length before)) (holding (all .key)) g) ok),
-    given ∙ sym (ap (λ (j : ℕ). writtenWith j (all .stream) before) ok),
+    given ∙ sym (ap (λ (j : ℕ). ifDone j (all .stream) before) ok),
   )
 
 -- an accepted draw keeps the limits

@@ -4,11 +4,11 @@ use mathlib.Core.List.{List, [], _∷_}
 use Prim.Native.Nat.{ℕ, _*_}
 use lib.Dec.{ltb}
 use lib.ListN.{length, take, drop}
+use Rattle.answers.specs.Done.{ifDone}
 use Rattle.encode.specs.Encode.{lengthSuffixed}
 use Rattle.calls.specs.Limits.{maxAdditional, maxOutput}
 use Rattle.calls.specs.Call.{Call, cSHAKE256, cshake256, fed}
 use Rattle.sponge.specs.Sponge.{sponge}
-use Rattle.hash.specs.Outcome.{writtenWith}
 use Rattle.pieces.specs.Pieces.{Generated, pieces, drawn}
 use Rattle.generator.specs.Seed.{holding, answerWith}
 use Rattle.generator.specs.declared.Generator.{Generator}
@@ -45,4 +45,4 @@ drawAnswer g additional n =
 -- what the lent output holds after it
 unfoldable pub drawOutput : Generator → (additional before : List ℕ) → List ℕ
 drawOutput g additional before =
-    writtenWith (drawRefusal (g .seeded) (length additional) (length before)) (drawn (generate additional) (length before) (g .key) .stream) before
+    ifDone (drawRefusal (g .seeded) (length additional) (length before)) (drawn (generate additional) (length before) (g .key) .stream) before

@@ -4,8 +4,9 @@ use mathlib.Core.Bool.{true, false}
 use mathlib.Core.List.{List}
 use Prim.Native.Nat.{ℕ, zero, suc}
 use lib.ListN.{replicate}
+use Rattle.answers.specs.Done.{ifDone}
 use Rattle.calls.specs.Call.{fed}
-use Rattle.calls.specs.Count.{runs, reportedWith}
+use Rattle.calls.specs.Count.{runs}
 use Rattle.alike.specs.Seeding.{Seeding, seedCall, seedRefusal, seedCount}
 use Rattle.sponge.specs.Sponge.{sponge}
 use Rattle.generator.specs.declared.Generator.{Generator}
@@ -30,7 +31,7 @@ handedBack (suc k) after before = before
 
 -- the answer with the number k, where the step takes n runs
 abbrev pub answerWith : ℕ → ℕ → (after before : Generator) → Answer
-answerWith k n after before = record { number = k; runs = reportedWith k n; generator = handedBack k after before }
+answerWith k n after before = record { number = k; runs = ifDone k n 0; generator = handedBack k after before }
 
 abbrev pub seeding : (key seed personalisation : List ℕ) → Seeding
 seeding key seed personalisation = record { key = key; seed = seed; personalisation = personalisation }

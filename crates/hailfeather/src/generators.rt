@@ -1,80 +1,38 @@
-// The cSHAKE generator as C calls it (document 01, 'The generator'): its state is a plain struct, passed by value and handed back.
+// The cSHAKE generator: its state is a plain struct, passed by value and handed back.
 ghost use mathlib.Core.Path.{_≡_};
 ghost use lib.ListN.{length};
 ghost use Rattle.generator.specs.Seed.{freshGenerator, seedAnswer};
 ghost use Rattle.generator.specs.Draw.{drawAnswer, drawOutput};
-ghost use Rattle.hailfeather.specs.Generator.{importedGenerator, exportedGenerator, exportedAnswer};
-use crate::flag;
-use generator::Answer;
-use generator::Generator;
-
-#[repr(C)]
-pub struct HfGenerator {
-    pub key: [u8; 64],
-    // 0 is never seeded.
-    pub seeded: u8,
-}
-
-#[repr(C)]
-pub struct HfDraw {
-    pub generator: HfGenerator,
-    pub runs: usize,
-    pub number: u8,
-}
-
-fn imported(g: HfGenerator) -> Generator
-    ensures { λ r. ⌜ r ≡ importedGenerator g ⌝ }
-{
-    let key = g.key;
-    let seeded = flag::is_set(g.seeded);
-    Generator { key, seeded }
-}
-
-fn exported(g: Generator) -> HfGenerator
-    ensures { λ r. ⌜ r ≡ exportedGenerator g ⌝ }
-{
-    let key = g.key;
-    let seeded = flag::number_of(g.seeded);
-    HfGenerator { key, seeded }
-}
-
-fn exported_answer(answer: Answer) -> HfDraw
-    ensures { λ r. ⌜ r ≡ exportedAnswer answer ⌝ }
-{
-    let generator = exported(answer.generator);
-    HfDraw {
-        generator,
-        runs: answer.runs,
-        number: answer.number,
-    }
-}
+ghost use Rattle.c_generator.specs.Generator.{importedGenerator, exportedGenerator, exportedAnswer};
+use c_generator::CGenerator;
+use c_generator::CGeneratorAnswer;
 
 #[no_mangle]
-pub extern "C" fn hf_generator_fresh() -> HfGenerator
+pub extern "C" fn hf_generator_fresh() -> CGenerator
     ensures { λ r. ⌜ r ≡ exportedGenerator freshGenerator ⌝ }
 {
-    exported(generator::fresh())
+    c_generator::fresh()
 }
 
 #[no_mangle]
 pub extern "C" fn hf_generator_seed(
-    generator: HfGenerator,
+    generator: CGenerator,
     seed: &[u8],
     personalisation: &[u8],
-) -> HfDraw
+) -> CGeneratorAnswer
     ensures { λ r. ⌜ r ≡ exportedAnswer (seedAnswer (importedGenerator generator) (now (seed .entry)) (now (personalisation .entry))) ⌝ }
 {
-    exported_answer(generator::seed(imported(generator), seed, personalisation))
+    c_generator::seed(generator, seed, personalisation)
 }
 
 #[no_mangle]
 pub extern "C" fn hf_generator_draw(
-    generator: HfGenerator,
+    generator: CGenerator,
     additional: &[u8],
     out: &mut [u8],
-) -> HfDraw
+) -> CGeneratorAnswer
     ensures { λ r. ⌜ (r ≡ exportedAnswer (drawAnswer (importedGenerator generator) (now (additional .entry)) (length (now (out .entry)))))
         × (now (out .exit) ≡ drawOutput (importedGenerator generator) (now (additional .entry)) (now (out .entry))) ⌝ }
 {
-    exported_answer(generator::draw(imported(generator), additional, out))
+    c_generator::draw(generator, additional, out)
 }

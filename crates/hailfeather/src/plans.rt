@@ -1,110 +1,44 @@
-// The chute plan as C calls it (document 01, 'The chute plan'): reading, looking up, the row of two plans as an offset and a length, writing, and walking.
+// The chute plan: reading, looking up, the row of two plans as an offset and a length, writing, and walking.
 ghost use mathlib.Core.Path.{_≡_};
 ghost use lib.ListN.{length};
 ghost use Rattle.plan.specs.Answers.{summaryOf, lookupOf};
 ghost use Rattle.plan_pair.specs.Pair.{locationOf};
 ghost use Rattle.plan_write.specs.Write.{lengthOf, writeRefusal, writtenOf};
 ghost use Rattle.plan_walk.specs.Walk.{startOf, stepOf};
-ghost use Rattle.hailfeather.specs.Plan.{exportedSummary, exportedLookup, sourceNumber, exportedLocation, exportedLength, exportedCursor, exportedWalk};
-use plan_pair::Source;
+ghost use Rattle.c_plan.specs.Row.{exportedLocation};
+use c_plan::CRow;
+use plan::Lookup;
+use plan::PlanSummary;
+use plan_walk::Cursor;
+use plan_walk::Step;
+use plan_write::PlanLength;
 
-#[repr(C)]
-pub struct HfRows {
-    pub rows: u32,
-    pub number: u8,
-}
-
-#[repr(C)]
-pub struct HfDestination {
-    pub destination: u32,
-    pub number: u8,
-}
-
-#[repr(C)]
-pub struct HfRow {
-    pub start: usize,
-    pub length: usize,
-    // 0 is neither plan, 1 the site plan, 2 the house plan.
-    pub source: u8,
-    pub number: u8,
-}
-
-#[repr(C)]
-pub struct HfLength {
-    pub length: usize,
-    pub number: u8,
-}
-
-// Where a walk stands, and the plan's refusal.
-#[repr(C)]
-pub struct HfCursor {
-    pub at: usize,
-    pub number: u8,
-}
-
-#[repr(C)]
-pub struct HfWalk {
-    pub next: usize,
-    pub destination: u32,
-    pub number: u8,
-}
-
-fn source_number(source: Source) -> u8
-    ensures { λ r. ⌜ r ≡ sourceNumber source ⌝ }
+#[no_mangle]
+pub extern "C" fn hf_plan_read(plan: &[u8]) -> PlanSummary
+    ensures { λ r. ⌜ r ≡ summaryOf (now (plan .entry)) ⌝ }
 {
-    match source {
-        Source::Neither => 0,
-        Source::Site => 1,
-        Source::House => 2,
-    }
+    plan::read_plan(plan)
 }
 
 #[no_mangle]
-pub extern "C" fn hf_plan_read(plan: &[u8]) -> HfRows
-    ensures { λ r. ⌜ r ≡ exportedSummary (summaryOf (now (plan .entry))) ⌝ }
+pub extern "C" fn hf_plan_destination(plan: &[u8], chute: u32) -> Lookup
+    ensures { λ r. ⌜ r ≡ lookupOf (now (plan .entry)) chute ⌝ }
 {
-    let summary = plan::read_plan(plan);
-    HfRows {
-        rows: summary.rows,
-        number: summary.refusal,
-    }
+    plan::destination(plan, chute)
 }
 
 #[no_mangle]
-pub extern "C" fn hf_plan_destination(plan: &[u8], chute: u32) -> HfDestination
-    ensures { λ r. ⌜ r ≡ exportedLookup (lookupOf (now (plan .entry)) chute) ⌝ }
-{
-    let lookup = plan::destination(plan, chute);
-    HfDestination {
-        destination: lookup.destination,
-        number: lookup.refusal,
-    }
-}
-
-#[no_mangle]
-pub extern "C" fn hf_plan_row(site: &[u8], house: &[u8], chute: u32) -> HfRow
+pub extern "C" fn hf_plan_row(site: &[u8], house: &[u8], chute: u32) -> CRow
     ensures { λ r. ⌜ r ≡ exportedLocation (locationOf (now (site .entry)) (now (house .entry)) chute) ⌝ }
 {
-    let location = plan_pair::row_location(site, house, chute);
-    let from = location.source;
-    let source = source_number(from);
-    HfRow {
-        start: location.start,
-        length: location.length,
-        source,
-        number: location.refusal,
-    }
+    c_plan::row(site, house, chute)
 }
 
 #[no_mangle]
-pub extern "C" fn hf_plan_length(rows: &[u32]) -> HfLength
-    ensures { λ r. ⌜ r ≡ exportedLength (lengthOf (now (rows .entry))) ⌝ }
+pub extern "C" fn hf_plan_length(rows: &[u32]) -> PlanLength
+    ensures { λ r. ⌜ r ≡ lengthOf (now (rows .entry)) ⌝ }
 {
-    let needed = plan_write::plan_length(rows);
-    HfLength {
-        length: needed.length,
-        number: needed.refusal,
-    }
+    plan_write::plan_length(rows)
 }
 
 #[no_mangle]
@@ -115,24 +49,15 @@ pub extern "C" fn hf_plan_write(rows: &[u32], out: &mut [u8]) -> u8
 }
 
 #[no_mangle]
-pub extern "C" fn hf_plan_start(plan: &[u8]) -> HfCursor
-    ensures { λ r. ⌜ r ≡ exportedCursor (startOf (now (plan .entry))) ⌝ }
+pub extern "C" fn hf_plan_start(plan: &[u8]) -> Cursor
+    ensures { λ r. ⌜ r ≡ startOf (now (plan .entry)) ⌝ }
 {
-    let cursor = plan_walk::start_at(plan);
-    HfCursor {
-        at: cursor.at,
-        number: cursor.refusal,
-    }
+    plan_walk::start_at(plan)
 }
 
 #[no_mangle]
-pub extern "C" fn hf_plan_step(plan: &[u8], at: usize, number: u8) -> HfWalk
-    ensures { λ r. ⌜ r ≡ exportedWalk (stepOf (now (plan .entry)) at number) ⌝ }
+pub extern "C" fn hf_plan_step(plan: &[u8], at: usize, number: u8) -> Step
+    ensures { λ r. ⌜ r ≡ stepOf (now (plan .entry)) at number ⌝ }
 {
-    let step = plan_walk::step_at(plan, at, number);
-    HfWalk {
-        next: step.next,
-        destination: step.destination,
-        number: step.refusal,
-    }
+    plan_walk::step_at(plan, at, number)
 }

@@ -9,8 +9,8 @@ use borrow.Author.Tests.{ltb-false}
 use lib.Dec.{ltb, eqb}
 use lib.ListN.{length}
 use Rattle.calls.specs.Start.{keyed, startRefusal}
-use Rattle.calls.specs.Call.{Function, Call, startOf, messageOf, outputOf, messageRefusal, outputRefusal, firstOf, refusal, fed, ending, KMAC256, KMACXOF256, kmac256}
-use Rattle.calls.specs.Count.{outputRuns, count, runs}
+use Rattle.calls.specs.Call.{Function, Call, startOf, messageOf, outputBytes, messageRefusal, outputRefusal, refusal, fed, ending, KMAC256, KMACXOF256, kmac256}
+use Rattle.calls.specs.Count.{outputRuns, reportedRuns, runs}
 use Rattle.calls.specs.Laws.Refusal.{test-passed, firstOf-passed, count-refused, count-accepted}
 use Rattle.calls.specs.Laws.Runs.{length-ending, runs-by-lengths}
 use Rattle.sponge.specs.Sponge.{sponge}
@@ -19,9 +19,10 @@ use Rattle.sponge.proofs.Absorbing.{absorbed-append}
 use Rattle.start.specs.declared.Started.{Started}
 use Rattle.start.specs.Started.{Starts}
 use Rattle.start.proofs.Calls.{start-number, start-blocks, call-output}
-use Rattle.hash.specs.declared.Outcome.{Outcome}
-use Rattle.hash.specs.Outcome.{outcome, writtenWith, written}
-use Rattle.hash.specs.Private.{Ran}
+use Rattle.answers.specs.declared.Outcome.{Outcome}
+use Rattle.answers.specs.Done.{ifDone, firstOf}
+use Rattle.hash.specs.Outcome.{outcome, written}
+use Rattle.hash.specs.Private.{HashRun}
 
 -- ---- refusals
 
@@ -32,8 +33,8 @@ pub refused : {f : Function} (c : Call f) (k : ℕ) (before : List ℕ) → refu
 unfolding outcome written
 refused c zero before e some = absurd (some refl)
 refused c (suc k) before e some =
-    let none : count c ≡ 0 = count-refused c (λ z. some (sym e ∙ z)) in
-    (sym (λ i. record { number = e i; runs = none i }), sym (ap (λ (n : ℕ). writtenWith n (sponge (fed c) (outputOf c)) before) e))
+    let none : reportedRuns c ≡ 0 = count-refused c (λ z. some (sym e ∙ z)) in
+    (sym (λ i. record { number = e i; runs = none i }), sym (ap (λ (n : ℕ). ifDone n (sponge (fed c) (outputBytes c)) before) e))
 
 pub first-some : (k later : ℕ) → (k ≡ 0 → ⊥) → k ≡ firstOf k later
 first-some zero later some = absurd (some refl)
@@ -41,22 +42,22 @@ first-some (suc k) later some = refl
 
 -- the number that `first_refusal` makes of the start's own and the lengths
 abbrev first : {f : Function} → Call f → Started → ℕ
-first c s = firstOf (s .number) (firstOf (messageRefusal (length (messageOf c))) (outputRefusal KMACXOF256 (outputOf c)))
+first c s = firstOf (s .number) (firstOf (messageRefusal (length (messageOf c))) (outputRefusal KMACXOF256 (outputBytes c)))
 
 module _ {f : Function} (c : Call f) (s : Started) (h : Starts (startOf c) s) where
   -- it is the call's for a function that accepts the same outputs as KMACXOF256
-  pub numbered : outputRefusal f (outputOf c) ≡ outputRefusal KMACXOF256 (outputOf c) → refusal c ≡ first c s
+  pub numbered : outputRefusal f (outputBytes c) ≡ outputRefusal KMACXOF256 (outputBytes c) → refusal c ≡ first c s
   unfolding refusal
   numbered e = ap₂ (λ (k o : ℕ). firstOf k (firstOf (messageRefusal (length (messageOf c))) o)) (sym (start-number (startOf c) s h)) e
 
   -- where it is 0 the start is accepted and the lengths keep the limits
-  pub passed : first c s ≡ 0 → (startRefusal (startOf c) ≡ 0) × (length (messageOf c) ≤ 16777216) × (outputOf c ≤ 16777216)
+  pub passed : first c s ≡ 0 → (startRefusal (startOf c) ≡ 0) × (length (messageOf c) ≤ 16777216) × (outputBytes c ≤ 16777216)
   passed e =
       let start = firstOf-passed (s .number) _ e in
       let lengths = firstOf-passed (messageRefusal (length (messageOf c))) _ (start .1) in (
         sym (start-number (startOf c) s h) ∙ start .0,
         ltb-false 16777216 (length (messageOf c)) (test-passed (ltb 16777216 (length (messageOf c))) 4 0 (lengths .0) .0),
-        ltb-false 16777216 (outputOf c) (test-passed (ltb 16777216 (outputOf c)) 5 0 (lengths .1) .0),
+        ltb-false 16777216 (outputBytes c) (test-passed (ltb 16777216 (outputBytes c)) 5 0 (lengths .1) .0),
       )
 
 -- KMAC256 refuses an empty output too, where nothing else is refused
@@ -89,18 +90,18 @@ chained l a b d m e p q suffix n first hp second hq end =
 
 -- ---- an accepted call
 
-module _ {f : Function} (c : Call f) (s : Started) (e out : List ℕ) (r : ℕ) (h : Starts (startOf c) s) (z : startRefusal (startOf c) ≡ 0) (is : e ≡ ending f (outputOf c))
-    (ran : Ran s (messageOf c) e out (outputOf c) r) where
-  output : out ≡ sponge (fed c) (outputOf c)
-  output = ran .output ∙ call-output c s (messageOf c ++ e) (outputOf c) h z (ap (λ (l : List ℕ). messageOf c ++ l) is)
+module _ {f : Function} (c : Call f) (s : Started) (e out : List ℕ) (r : ℕ) (h : Starts (startOf c) s) (z : startRefusal (startOf c) ≡ 0) (is : e ≡ ending f (outputBytes c))
+    (ran : HashRun s (messageOf c) e out (outputBytes c) r) where
+  output : out ≡ sponge (fed c) (outputBytes c)
+  output = ran .output ∙ call-output c s (messageOf c ++ e) (outputBytes c) h z (ap (λ (l : List ℕ). messageOf c ++ l) is)
 
   counted : r ≡ runs c
   counted =
-      let n : length e ≡ length (ending f (outputOf c)) = ap length is in
-      omega (arith, ran .runs, runs-by-lengths c, start-blocks (startOf c) s h z, length-ending f (outputOf c))
+      let n : length e ≡ length (ending f (outputBytes c)) = ap length is in
+      omega (arith, ran .runs, runs-by-lengths c, start-blocks (startOf c) s h z, length-ending f (outputBytes c))
 
   pub answered : refusal c ≡ 0 → (before : List ℕ) → (record { number = 0; runs = r } ≡ outcome c) × (out ≡ written c before)
   unfolding outcome written
   answered ok before =
-      let n : r ≡ count c = counted ∙ sym (count-accepted c ok) in
-      (sym (λ i. record { number = ok i; runs = sym n i }), output ∙ sym (ap (λ (k : ℕ). writtenWith k (sponge (fed c) (outputOf c)) before) ok))
+      let n : r ≡ reportedRuns c = counted ∙ sym (count-accepted c ok) in
+      (sym (λ i. record { number = ok i; runs = sym n i }), output ∙ sym (ap (λ (k : ℕ). ifDone k (sponge (fed c) (outputBytes c)) before) ok))

@@ -1,9 +1,14 @@
 // cSHAKE256, KMAC256 and KMACXOF256 in one call (SP 800-185, 3.3, 4.3 and 4.3.1). A refusal writes nothing and reports no runs.
 ghost use mathlib.Core.Path.{_≡_};
 ghost use lib.ListN.{length};
-ghost use Rattle.calls.specs.Call.{KMACXOF256, cshake256, kmac256, kmacxof256, messageRefusal, outputRefusal, firstOf};
+ghost use Rattle.calls.specs.Call.{KMACXOF256, cshake256, kmac256, kmacxof256, messageRefusal, outputRefusal};
+ghost use Rattle.answers.specs.Done.{firstOf};
 ghost use Rattle.hash.specs.Outcome.{outcome, written};
-ghost use Rattle.hash.specs.Private.{Small, Ran};
+ghost use Rattle.hash.specs.Private.{WithinLimits, HashRun};
+use answers::BAD_OUTPUT_LENGTH;
+use answers::DONE;
+use answers::INPUT_TOO_LONG;
+use answers::Outcome;
 use calls::MAX_MESSAGE;
 use calls::MAX_OUTPUT;
 use calls::output_runs;
@@ -11,12 +16,6 @@ use sponge::absorb;
 use sponge::finish;
 use sponge::squeeze;
 use start::Started;
-
-// The number that a call is answered with, and the permutations it took.
-pub struct Outcome {
-    pub number: u8,
-    pub runs: usize,
-}
 
 // The number for a start's own number, a message and an extendable output of these lengths: the smallest that applies.
 fn first_refusal(start: u8, message: usize, out: usize) -> u8
@@ -26,18 +25,18 @@ fn first_refusal(start: u8, message: usize, out: usize) -> u8
         return start;
     }
     if MAX_MESSAGE < message {
-        return 5;
+        return INPUT_TOO_LONG;
     }
     if MAX_OUTPUT < out {
-        return 6;
+        return BAD_OUTPUT_LENGTH;
     }
-    0
+    DONE
 }
 
 // The message and its ending after an accepted start, and `out` filled; the permutations of the whole call.
 fn run(start: Started, message: &[u8], ending: &[u8], out: &mut [u8]) -> usize
-    requires { ⌜ Small start (now message) (now ending) (now out) ⌝ }
-    ensures { λ r. ⌜ Ran start (now (message .entry)) (now (ending .entry)) (now (out .exit)) (length (now (out .entry))) r ⌝ }
+    requires { ⌜ WithinLimits start (now message) (now ending) (now out) ⌝ }
+    ensures { λ r. ⌜ HashRun start (now (message .entry)) (now (ending .entry)) (now (out .exit)) (length (now (out .entry))) r ⌝ }
 {
     let n = out.len();
     let mut lanes = start.lanes;
@@ -56,10 +55,10 @@ pub fn cshake256(name: &[u8], customisation: &[u8], message: &[u8], out: &mut [u
     let start = start::start_named(name, customisation);
     let number = first_refusal(start.number, message.len(), out.len());
     if number != 0 {
-        return Outcome { number, runs: 0 };
+        return Outcome { runs: 0, number };
     }
     let runs = run(start, message, b"", out);
-    Outcome { number: 0, runs }
+    Outcome { runs, number: DONE }
 }
 
 // KMAC256(key, message, 8 * out.len(), customisation).
@@ -71,16 +70,19 @@ pub fn kmac256(key: &[u8], customisation: &[u8], message: &[u8], out: &mut [u8])
     let n = out.len();
     let number = first_refusal(start.number, message.len(), n);
     if number != 0 {
-        return Outcome { number, runs: 0 };
+        return Outcome { runs: 0, number };
     }
     if n == 0 {
-        return Outcome { number: 6, runs: 0 };
+        return Outcome {
+            runs: 0,
+            number: BAD_OUTPUT_LENGTH,
+        };
     }
     let code = encode::right_encode(8 * (n as u64));
     let bytes = code.bytes;
     let end = code.len;
     let runs = run(start, message, &bytes[..end], out);
-    Outcome { number: 0, runs }
+    Outcome { runs, number: DONE }
 }
 
 // KMACXOF256(key, message, 8 * out.len(), customisation).
@@ -91,9 +93,9 @@ pub fn kmacxof256(key: &[u8], customisation: &[u8], message: &[u8], out: &mut [u
     let start = start::start_keyed(key, customisation);
     let number = first_refusal(start.number, message.len(), out.len());
     if number != 0 {
-        return Outcome { number, runs: 0 };
+        return Outcome { runs: 0, number };
     }
     // right_encode(0)
     let runs = run(start, message, b"\x00\x01", out);
-    Outcome { number: 0, runs }
+    Outcome { runs, number: DONE }
 }

@@ -1,6 +1,6 @@
 // Some thousand calls of the three functions with names or keys, customisations and messages of mixed lengths around the edges of blocks and limits. Each
 // line is a checksum over the numbers, counts and final output buffers of a group of calls. The expected output is that of reference/hash_cases.py.
-use hash::Outcome;
+use answers::Outcome;
 use testing::add_bytes;
 use testing::add_number;
 use testing::first;

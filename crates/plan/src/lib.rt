@@ -119,9 +119,10 @@ pub fn read_whole(plan: &[u8], chute: u32) -> PlanRead
 }
 
 // The answer of reading a plan: the refusal, or 0 and the number of rows.
+#[repr(C)]
 pub struct PlanSummary {
-    pub refusal: u8,
     pub rows: u32,
+    pub refusal: u8,
 }
 
 pub fn read_plan(plan: &[u8]) -> PlanSummary
@@ -147,9 +148,10 @@ pub fn has_chute(count: u32, chute: u32) -> bool
 }
 
 // The answer for one chute: the refusal, or 0 and the destination.
+#[repr(C)]
 pub struct Lookup {
-    pub refusal: u8,
     pub destination: u32,
+    pub refusal: u8,
 }
 
 pub fn destination(plan: &[u8], chute: u32) -> Lookup

@@ -13,12 +13,14 @@ pub struct Walker<'a> {
 }
 
 // What a walker keeps beside the plan.
+#[repr(C)]
 pub struct Cursor {
     pub at: usize,
     pub refusal: u8,
 }
 
 // The answer to an ask, and the place after it.
+#[repr(C)]
 pub struct Step {
     pub refusal: u8,
     pub destination: u32,

@@ -9,9 +9,10 @@ use plan::MAX_DESTINATION;
 use plan::MAX_ROWS;
 
 // How many bytes a plan takes: the refusal, or 0 and the length.
+#[repr(C)]
 pub struct PlanLength {
-    pub refusal: u8,
     pub length: usize,
+    pub refusal: u8,
 }
 
 // How many groups a number takes.

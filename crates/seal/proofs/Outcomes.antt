@@ -7,14 +7,14 @@ use native.Mathlib.Omega.{arith}
 use borrow.Author.Tests.{eqb-true, ltb-false}
 use lib.Dec.{eqb, ltb}
 use lib.ListN.{length, take}
+use Rattle.answers.specs.Done.{firstOf, ifDone}
 use Rattle.calls.specs.Start.{sameBytes}
-use Rattle.calls.specs.Call.{firstOf, fed}
-use Rattle.calls.specs.Count.{reportedWith, outputRuns, runs}
+use Rattle.calls.specs.Call.{fed}
+use Rattle.calls.specs.Count.{outputRuns, runs}
 use Rattle.calls.specs.Laws.Refusal.{test-passed}
 use Rattle.calls.specs.Laws.Runs.{runs-by-lengths, length-ending}
 use Rattle.sponge.proofs.Whole.{sponge-prefix}
-use Rattle.hash.specs.declared.Outcome.{Outcome}
-use Rattle.hash.specs.Outcome.{writtenWith}
+use Rattle.answers.specs.declared.Outcome.{Outcome}
 use Rattle.seal.specs.Seal.{Arguments, converted, tagCall, tagOf, lengthsRefusal, sealRefusal, openRefusal, sealRuns}
 use Rattle.seal.specs.Answers.{sealed, sealedText, sealedTag, opened, openedText}
 
@@ -56,9 +56,9 @@ module _ (a : Arguments) (before tag : List ℕ) where
   unfolding sealed sealedText sealedTag
   seal-refused zero e some = absurd (some refl)
   seal-refused (suc k) e some = (
-    ap (λ (n : ℕ). answer n (reportedWith n (sealRuns a (converted a) (length tag)))) e,
-    ap (λ (n : ℕ). writtenWith n (converted a) before) e,
-    ap (λ (n : ℕ). writtenWith n (tagOf a (converted a) (length tag)) tag) e,
+    ap (λ (n : ℕ). answer n (ifDone n (sealRuns a (converted a) (length tag)) 0)) e,
+    ap (λ (n : ℕ). ifDone n (converted a) before) e,
+    ap (λ (n : ℕ). ifDone n (tagOf a (converted a) (length tag)) tag) e,
   )
 
   pub seal-accepted : (r : ℕ) (out made : List ℕ) → 0 ≡ sealRefusal a (length before) (length tag) → r ≡ sealRuns a (converted a) (length tag)
@@ -66,19 +66,19 @@ module _ (a : Arguments) (before tag : List ℕ) where
       → (answer 0 r ≡ sealed a (length before) (length tag)) × (out ≡ sealedText a before (length tag)) × (made ≡ sealedTag a (length before) tag)
   unfolding sealed sealedText sealedTag
   seal-accepted r out made e counted text is = (
-    ap (answer 0) counted ∙ ap (λ (n : ℕ). answer n (reportedWith n (sealRuns a (converted a) (length tag)))) e,
-    text ∙ ap (λ (n : ℕ). writtenWith n (converted a) before) e,
-    is ∙ ap (λ (n : ℕ). writtenWith n (tagOf a (converted a) (length tag)) tag) e,
+    ap (answer 0) counted ∙ ap (λ (n : ℕ). answer n (ifDone n (sealRuns a (converted a) (length tag)) 0)) e,
+    text ∙ ap (λ (n : ℕ). ifDone n (converted a) before) e,
+    is ∙ ap (λ (n : ℕ). ifDone n (tagOf a (converted a) (length tag)) tag) e,
   )
 
   -- ---- opening
 
-  open-answered : (k r : ℕ) (out : List ℕ) → k ≡ openRefusal a (length before) tag → r ≡ reportedWith k (sealRuns a (a .text) (length tag))
-      → out ≡ writtenWith k (converted a) before → (answer k r ≡ opened a (length before) tag) × (out ≡ openedText a before tag)
+  open-answered : (k r : ℕ) (out : List ℕ) → k ≡ openRefusal a (length before) tag → r ≡ ifDone k (sealRuns a (a .text) (length tag)) 0
+      → out ≡ ifDone k (converted a) before → (answer k r ≡ opened a (length before) tag) × (out ≡ openedText a before tag)
   unfolding opened openedText
   open-answered k r out e counted is = (
-    ap (answer k) counted ∙ ap (λ (n : ℕ). answer n (reportedWith n (sealRuns a (a .text) (length tag)))) e,
-    is ∙ ap (λ (n : ℕ). writtenWith n (converted a) before) e,
+    ap (answer k) counted ∙ ap (λ (n : ℕ). answer n (ifDone n (sealRuns a (a .text) (length tag)) 0)) e,
+    is ∙ ap (λ (n : ℕ). ifDone n (converted a) before) e,
   )
 
   pub open-refused : (k : ℕ) → k ≡ sealRefusal a (length before) (length tag) → (k ≡ 0 → ⊥)

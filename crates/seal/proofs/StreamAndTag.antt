@@ -10,7 +10,7 @@ use lib.ListN.{length, take, drop, length-append}
 use Rattle.encode.specs.Digits.{widthIn}
 use Rattle.encode.specs.Encode.{bigEndian, rightEncode}
 use Rattle.calls.specs.Start.{keyed, startRefusal}
-use Rattle.calls.specs.Call.{Call, KMACXOF256, kmacxof256, startOf, messageOf, outputOf, fed, ending}
+use Rattle.calls.specs.Call.{Call, KMACXOF256, kmacxof256, startOf, messageOf, outputBytes, fed, ending}
 use Rattle.calls.specs.Count.{outputRuns, runs}
 use Rattle.calls.specs.Laws.Runs.{runs-by-lengths, length-ending}
 use Rattle.sponge.specs.Sponge.{sponge}
@@ -44,12 +44,12 @@ ended n = refl
 module _ (c : Call KMACXOF256) (s : Started) (h : Starts (startOf c) s) (ok : startRefusal (startOf c) ≡ 0) where
   pub xof-output : (u : Running) (n : ℕ) → u ≡ finished (s .suffix) (absorbed (running (s .lanes) 0) (messageOf c ++ zeroCode)) → squeezed n u ≡ sponge (fed c) n
   xof-output u n e =
-      ap (squeezed n) e ∙ call-output c s (messageOf c ++ zeroCode) n h ok (ap (λ (l : List ℕ). messageOf c ++ l) (ended (outputOf c)))
+      ap (squeezed n) e ∙ call-output c s (messageOf c ++ zeroCode) n h ok (ap (λ (l : List ℕ). messageOf c ++ l) (ended (outputBytes c)))
 
-  pub xof-runs : s .blocks + (length (messageOf c) + 2) / 136 + 1 + outputRuns (outputOf c) ≡ runs c
+  pub xof-runs : s .blocks + (length (messageOf c) + 2) / 136 + 1 + outputRuns (outputBytes c) ≡ runs c
   xof-runs =
-      let two : 2 ≡ length (ending KMACXOF256 (outputOf c)) = ap length (ended (outputOf c)) in
-      omega (arith, runs-by-lengths c, start-blocks (startOf c) s h ok, length-ending KMACXOF256 (outputOf c))
+      let two : 2 ≡ length (ending KMACXOF256 (outputBytes c)) = ap length (ended (outputBytes c)) in
+      omega (arith, runs-by-lengths c, start-blocks (startOf c) s h ok, length-ending KMACXOF256 (outputBytes c))
 
 -- the tag's count, from those of its parts
 pub tag-runs : (K x l : List ℕ) (n o : ℕ) (s : Started) → Starts (keyed K []) s → startRefusal (keyed K []) ≡ 0 → o ≡ outputRuns n

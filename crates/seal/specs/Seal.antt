@@ -4,9 +4,10 @@ use mathlib.Core.List.{List, [], _++_}
 use Prim.Native.Nat.{ℕ, zero, suc, _+_}
 use lib.Dec.{eqb, ltb}
 use lib.ListN.{length, take, drop}
+use Rattle.answers.specs.Done.{firstOf}
 use Rattle.calls.specs.Limits.{maxCustomisation, maxMessage}
 use Rattle.calls.specs.Start.{sameBytes}
-use Rattle.calls.specs.Call.{Call, KMACXOF256, kmacxof256, fed, firstOf}
+use Rattle.calls.specs.Call.{Call, KMACXOF256, kmacxof256, fed}
 use Rattle.calls.specs.Count.{runs}
 use Rattle.sponge.specs.Sponge.{sponge}
 use Rattle.seal.specs.KeyStream.{combined}

@@ -4,7 +4,7 @@ ghost use mathlib.Core.Path.{_≡_};
 ghost use lib.ListN.{length};
 ghost use Rattle.seal.specs.Seal.{Arguments};
 ghost use Rattle.seal.specs.Answers.{sealed, sealedText, sealedTag, opened, openedText};
-use hash::Outcome;
+use answers::Outcome;
 use parts::begin_stream;
 use parts::combine;
 use parts::lengths_refusal;

@@ -1,6 +1,6 @@
 // One sealing, and the opening of what it left in the buffers, both with what is lent cut to given lengths. Buffers hold a5 before, so that a refusal
 // that writes shows in the checksum.
-use hash::Outcome;
+use answers::Outcome;
 use testing::add_bytes;
 use testing::add_number;
 use testing::fill;

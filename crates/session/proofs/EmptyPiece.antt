@@ -13,10 +13,10 @@ use Rattle.sponge.proofs.Whole.{absorbed-position}
 use Rattle.session.specs.declared.Phase.{Phase}
 use Rattle.session.specs.declared.Phase.the-variants.{Taking, Giving}
 use Rattle.session.specs.declared.Session.{Session}
-use Rattle.session.specs.declared.Step.{Step}
-use Rattle.session.specs.Session.{step, afterTaking, takingIn, taking}
+use Rattle.session.specs.declared.SessionAnswer.{SessionAnswer}
+use Rattle.session.specs.Session.{sessionAnswer, afterTaking, takingIn, taking}
 use Rattle.session.specs.History.{SessionCall, sessionAfter}
-use Rattle.session.proofs.Outcome.{tookTo, gaveTo, Outcome, refused, took, gave, by-outcome}
+use Rattle.session.proofs.CallCase.{tookTo, gaveTo, CallCase, refused, took, gave, by-case}
 
 -- of a session that is taking
 abbrev pub Regular : Session → Type 0
@@ -30,34 +30,34 @@ unfolding sessionAfter
 stays-none s h = h
 
 took-regular : (s : Session) (p : ℕ) (m : List ℕ) → s .taken + length m ≤ maxMessage → Regular (tookTo s p m)
-took-regular s p m few q e =
+took-regular s p m bounded q e =
     let u : Running = absorbed (running (s .lanes) (p % 136)) m in
     let i : q ≡ u .position = cc in
-    (omega (arith, absorbed-position m (s .lanes) (p % 136) (omega arith)), few)
+    (omega (arith, absorbed-position m (s .lanes) (p % 136) (omega arith)), bounded)
 
 gave-regular : (s : Session) (out : List ℕ) → Regular (gaveTo s out)
 gave-regular s out q e = absurd (let z : _≡_ {A = ℕ} 0 1 = cc in omega arith)
 
-stays-one : (c : SessionCall) (cs : List SessionCall) (s : Session) → Outcome s c → ((t : Session) → StaysRegular cs t) → StaysRegular (c ∷ cs) s
+stays-one : (c : SessionCall) (cs : List SessionCall) (s : Session) → CallCase s c → ((t : Session) → StaysRegular cs t) → StaysRegular (c ∷ cs) s
 unfolding sessionAfter
-stays-one c cs s (refused k e) ih h = subst (λ (t : Step). Regular (sessionAfter (t .session) cs)) (sym e) (ih s h)
-stays-one c cs s (took {m} p ph few e) ih h = subst (λ (t : Step). Regular (sessionAfter (t .session) cs)) (sym e) (ih (tookTo s p m) (took-regular s p m few))
-stays-one c cs s (gave {out} few e f) ih h = subst (λ (t : Step). Regular (sessionAfter (t .session) cs)) (sym e) (ih (gaveTo s out) (gave-regular s out))
+stays-one c cs s (refused k e) ih h = subst (λ (t : SessionAnswer). Regular (sessionAfter (t .session) cs)) (sym e) (ih s h)
+stays-one c cs s (took {m} p ph bounded e) ih h = subst (λ (t : SessionAnswer). Regular (sessionAfter (t .session) cs)) (sym e) (ih (tookTo s p m) (took-regular s p m bounded))
+stays-one c cs s (gave {out} bounded e f) ih h = subst (λ (t : SessionAnswer). Regular (sessionAfter (t .session) cs)) (sym e) (ih (gaveTo s out) (gave-regular s out))
 
 pub stays-regular : (cs : List SessionCall) (s : Session) → StaysRegular cs s
-stays-regular = by-outcome StaysRegular stays-none stays-one
+stays-regular = by-case StaysRegular stays-none stays-one
 
 -- the session handed back for an empty piece
 
 taken-none : (s : Session) (p : ℕ) → s .phase ≡ Taking p → p < 136 → s .taken ≤ maxMessage → taking s [] .session ≡ s
 unfolding takingIn absorbed
-taken-none s p e below few =
+taken-none s p e below bounded =
     let i : Taking (p % 136) ≡ s .phase = ap Taking (mod-eq-of-lt below) ∙ sym e in
     let n : s .taken + 0 ≡ s .taken = add-zero (s .taken) in
     let passed : s .taken + 0 ≤ maxMessage = omega arith in
     ap (λ (ph : Phase). takingIn ph s [] .session) e
-    ∙ ap (λ (b : Bool). cond b (step 5 s) (step 0 (afterTaking s 0 (running (s .lanes) (p % 136)))) .session) (le-ltb maxMessage (s .taken + 0) passed)
-    ∙ (λ j. record { lanes = s .lanes; phase = i j; taken = n j; given = s .given; limit = s .limit; suffix = s .suffix; keyed = s .keyed })
+    ∙ ap (λ (b : Bool). cond b (sessionAnswer 5 s) (sessionAnswer 0 (afterTaking s 0 (running (s .lanes) (p % 136)))) .session) (le-ltb maxMessage (s .taken + 0) passed)
+    ∙ (λ j. record { lanes = s .lanes; phase = i j; taken = n j; given = s .given; limit = s .limit; suffix = s .suffix; kmac = s .kmac })
 
 giving-none : (s : Session) (p : ℕ) → s .phase ≡ Giving p → taking s [] .session ≡ s
 unfolding takingIn

@@ -12,17 +12,17 @@ use Rattle.sponge.proofs.Whole.{absorbed-position}
 use Rattle.session.specs.declared.Phase.{Phase}
 use Rattle.session.specs.declared.Phase.the-variants.{Taking, Giving}
 use Rattle.session.specs.declared.Session.{Session}
-use Rattle.session.specs.Session.{inputEnd, source}
-use Rattle.session.specs.History.{SessionCall, pieces, output}
-use Rattle.session.proofs.Outcome.{tookTo, gaveTo, Outcome, refused, took, gave, by-outcome}
+use Rattle.session.specs.Session.{inputEnd, givingSponge}
+use Rattle.session.specs.History.{SessionCall, acceptedPieces, output}
+use Rattle.session.proofs.CallCase.{tookTo, gaveTo, CallCase, refused, took, gave, by-case}
 
 -- the sponge that a session gives from, once it has taken m
 unfoldable pub sourceAfter : Phase → Session → List ℕ → Running
-sourceAfter (Taking p) s m = finished (s .suffix) (absorbed (running (s .lanes) (p % 136)) (m ++ inputEnd (s .keyed)))
+sourceAfter (Taking p) s m = finished (s .suffix) (absorbed (running (s .lanes) (p % 136)) (m ++ inputEnd (s .kmac)))
 sourceAfter (Giving p) s m = running (s .lanes) p
 
-sourceAfter-none : (ph : Phase) (s : Session) → sourceAfter ph s [] ≡ source ph s
-unfolding sourceAfter source
+sourceAfter-none : (ph : Phase) (s : Session) → sourceAfter ph s [] ≡ givingSponge ph s
+unfolding sourceAfter givingSponge
 sourceAfter-none (Taking p) s = refl
 sourceAfter-none (Giving p) s = refl
 
@@ -32,7 +32,7 @@ unfolding sourceAfter
 sourceAfter-more s p m l =
     let from : Running = running (s .lanes) (p % 136) in
     let u : Running = absorbed from m in
-    let end : List ℕ = inputEnd (s .keyed) in
+    let end : List ℕ = inputEnd (s .kmac) in
     let i : u .position % 136 ≡ u .position
     = mod-eq-of-lt (omega (arith, absorbed-position m (s .lanes) (p % 136) (omega arith))) in
     ap (λ (k : ℕ). finished (s .suffix) (absorbed (running (u .lanes) k) (l ++ end))) i
@@ -42,21 +42,21 @@ sourceAfter-more s p m l =
 -- ---- a session that is giving takes nothing more
 
 abbrev TakesNothing : List SessionCall → Session → Type 0
-TakesNothing cs s = (p : ℕ) → s .phase ≡ Giving p → pieces s cs ≡ []
+TakesNothing cs s = (p : ℕ) → s .phase ≡ Giving p → acceptedPieces s cs ≡ []
 
 takes-nothing-none : (s : Session) → TakesNothing [] s
-unfolding pieces
+unfolding acceptedPieces
 takes-nothing-none s p h = refl
 
-takes-nothing-one : (c : SessionCall) (cs : List SessionCall) (s : Session) → Outcome s c → ((t : Session) → TakesNothing cs t) → TakesNothing (c ∷ cs) s
-unfolding pieces
+takes-nothing-one : (c : SessionCall) (cs : List SessionCall) (s : Session) → CallCase s c → ((t : Session) → TakesNothing cs t) → TakesNothing (c ∷ cs) s
+unfolding acceptedPieces
 takes-nothing-one c cs s (refused k e) ih p h = rw e (ih s p h)
-takes-nothing-one c cs s (took q ph few e) ih p h = cc
-takes-nothing-one c cs s (gave {out} few e f) ih p h =
-    rw e (ih (gaveTo s out) (after (length out) (source (s .phase) s) .position) refl)
+takes-nothing-one c cs s (took q ph bounded e) ih p h = cc
+takes-nothing-one c cs s (gave {out} bounded e f) ih p h =
+    rw e (ih (gaveTo s out) (after (length out) (givingSponge (s .phase) s) .position) refl)
 
 takes-nothing : (cs : List SessionCall) (s : Session) → TakesNothing cs s
-takes-nothing = by-outcome TakesNothing takes-nothing-none takes-nothing-one
+takes-nothing = by-case TakesNothing takes-nothing-none takes-nothing-one
 
 -- ---- the bytes given
 
@@ -68,24 +68,24 @@ join-one n u l h =
     ∙ ap (λ (k : ℕ). squeezed k u) (sym (length-append (squeezed n u) l ∙ ap (λ (k : ℕ). k + length l) (length-squeezed n u)))
 
 abbrev Gives : List SessionCall → Session → Type 0
-Gives cs s = output s cs ≡ squeezed (length (output s cs)) (sourceAfter (s .phase) s (pieces s cs))
+Gives cs s = output s cs ≡ squeezed (length (output s cs)) (sourceAfter (s .phase) s (acceptedPieces s cs))
 
 gives-none : (s : Session) → Gives [] s
 unfolding output squeezed
 gives-none s = refl
 
-gives-one : (c : SessionCall) (cs : List SessionCall) (s : Session) → Outcome s c → ((t : Session) → Gives cs t) → Gives (c ∷ cs) s
-unfolding output pieces sourceAfter
+gives-one : (c : SessionCall) (cs : List SessionCall) (s : Session) → CallCase s c → ((t : Session) → Gives cs t) → Gives (c ∷ cs) s
+unfolding output acceptedPieces sourceAfter
 gives-one c cs s (refused k e) ih = rw e (ih s)
-gives-one c cs s (took {m} p ph few e) ih =
+gives-one c cs s (took {m} p ph bounded e) ih =
     let t : Session = tookTo s p m in
-    rw (e, ph) (ih t ∙ ap (squeezed (length (output t cs))) (sourceAfter-more s p m (pieces t cs)))
-gives-one c cs s (gave {out} few e f) ih =
-    let from : Running = source (s .phase) s in
+    rw (e, ph) (ih t ∙ ap (squeezed (length (output t cs))) (sourceAfter-more s p m (acceptedPieces t cs)))
+gives-one c cs s (gave {out} bounded e f) ih =
+    let from : Running = givingSponge (s .phase) s in
     let t : Session = gaveTo s out in
-    let taken : pieces t cs ≡ [] = takes-nothing cs t (after (length out) from .position) refl in
+    let taken : acceptedPieces t cs ≡ [] = takes-nothing cs t (after (length out) from .position) refl in
     rw (e, f, taken)
     (join-one (length out) from (output t cs) (ih t) ∙ ap (squeezed (length (squeezed (length out) from ++ output t cs))) (sym (sourceAfter-none (s .phase) s)))
 
 pub gives-joined : (cs : List SessionCall) (s : Session) → Gives cs s
-gives-joined = by-outcome Gives gives-none gives-one
+gives-joined = by-case Gives gives-none gives-one

@@ -15,22 +15,22 @@ use Rattle.sponge.specs.Sponge.{sponge}
 use Rattle.sponge.specs.Running.{Running, running, fresh, absorbed, finished, squeezed}
 use Rattle.sponge.proofs.Absorbing.{absorbed-append}
 use Rattle.sponge.proofs.Whole.{absorbed-position, squeezed-whole, sponge-prefix}
-use Rattle.start.specs.Started.{accepted, started}
+use Rattle.start.specs.Started.{afterPrefix, started}
 use Rattle.session.specs.declared.Phase.the-variants.{Taking}
 use Rattle.session.specs.declared.Session.{Session}
-use Rattle.session.specs.Session.{step, initial, opened, isKeyed, begun, inputEnd}
-use Rattle.session.specs.History.{SessionCall, sessionAfter, pieces, output}
+use Rattle.session.specs.Session.{sessionAnswer, initial, startedSession, isKmac, begun, inputEnd}
+use Rattle.session.specs.History.{SessionCall, sessionAfter, acceptedPieces, output}
 use Rattle.session.specs.Joined.{JoinedBytes}
 use Rattle.session.proofs.EmptyPiece.{Regular, stays-regular, empty-piece}
 use Rattle.session.proofs.Totals.{takes-few, gives-few}
 use Rattle.session.proofs.Given.{sourceAfter, gives-joined}
 use Rattle.session.proofs.Numbers.{numbers-table}
 
-begun-accepted : (s : Start) → startRefusal s ≡ 0 → begun s ≡ step 0 (initial (accepted s) (isKeyed s))
-unfolding begun opened started
+begun-accepted : (s : Start) → startRefusal s ≡ 0 → begun s ≡ sessionAnswer 0 (initial (afterPrefix s) (isKmac s))
+unfolding begun startedSession started
 begun-accepted s h = rw h
 
-initial-regular : (s : Start) → Regular (initial (accepted s) (isKeyed s))
+initial-regular : (s : Start) → Regular (initial (afterPrefix s) (isKmac s))
 initial-regular s p e = let i : 0 ≡ p = cc in (omega arith, omega arith)
 
 -- ---- the one-shot call
@@ -40,7 +40,7 @@ unfolding refusal
 call-accepted (named N S) X n h x y = rw (h, le-ltb maxMessage (length X) x, le-ltb maxOutput n y)
 call-accepted (keyed K S) X n h x y = rw (h, le-ltb maxMessage (length X) x, le-ltb maxOutput n y)
 
-inputEnd-ending : (s : Start) → inputEnd (isKeyed s) ≡ ending (extendable s) 0
+inputEnd-ending : (s : Start) → inputEnd (isKmac s) ≡ ending (extendable s) 0
 unfolding inputEnd
 inputEnd-ending (named N S) = refl
 inputEnd-ending (keyed K S) = refl
@@ -55,10 +55,10 @@ prefix-absorbed s =
 
 -- once the session has taken X, it gives the one-shot answer
 call-given : (s : Start) (X : List ℕ) (n d : ℕ)
-    → squeezed n (sourceAfter (Taking 0) (initial (accepted s) (isKeyed s)) X) ≡ sponge (fed (extendableCall s X d)) n
+    → squeezed n (sourceAfter (Taking 0) (initial (afterPrefix s) (isKmac s)) X) ≡ sponge (fed (extendableCall s X d)) n
 unfolding sourceAfter
 call-given s X n d =
-    let l : List ℕ = X ++ inputEnd (isKeyed s) in
+    let l : List ℕ = X ++ inputEnd (isKmac s) in
     let input : absorbed (running (absorbed fresh (startPrefix s) .lanes) 0) l ≡ absorbed fresh (startPrefix s ++ l)
     = ap (λ (u : Running). absorbed u l) (prefix-absorbed s) ∙ sym (absorbed-append fresh (startPrefix s) l) in
     let fed-input : padded (startSuffix s) (startPrefix s ++ l) ≡ fed (extendableCall s X d)
@@ -71,13 +71,13 @@ call-given s X n d =
 
 pub joined-bytes : (s : Start) → startRefusal s ≡ 0 → (cs : List SessionCall) → JoinedBytes s cs
 joined-bytes s h cs =
-    let b : Session = initial (accepted s) (isKeyed s) in
-    let e : begun s ≡ step 0 b = begun-accepted s h in
-    let X : List ℕ = pieces b cs in
+    let b : Session = initial (afterPrefix s) (isKmac s) in
+    let e : begun s ≡ sessionAnswer 0 b = begun-accepted s h in
+    let X : List ℕ = acceptedPieces b cs in
     let n : ℕ = length (output b cs) in
     record {
       started = rw e;
-      numbered = rw e (numbers-table cs (b .lanes) (Taking 0) 0 0 (b .suffix) (b .keyed));
+      numbered = rw e (numbers-table cs (b .lanes) (Taking 0) 0 0 (b .suffix) (b .kmac));
       emptyPiece = rw e (empty-piece (sessionAfter b cs) (stays-regular cs b (initial-regular s)));
       acceptable = rw e (call-accepted s X n h (omega (arith, takes-few cs b (omega arith))) (omega (arith, gives-few cs b (omega arith))));
       joined = λ d f. rw e (gives-joined cs b ∙ call-given s X n d ∙ sym (sponge-prefix (fed (extendableCall s X d)) n d (rw e at f)));

@@ -1,4 +1,4 @@
-pub mod Outcome
+pub mod CallCase
 pub mod Totals
 pub mod EmptyPiece
 pub mod Given

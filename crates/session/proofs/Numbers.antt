@@ -10,7 +10,7 @@ use Rattle.sponge.specs.Running.{Running, running, absorbed, after}
 use Rattle.session.specs.declared.Phase.{Phase}
 use Rattle.session.specs.declared.Phase.the-variants.{Taking, Giving}
 use Rattle.session.specs.declared.Session.{Session}
-use Rattle.session.specs.Session.{step, takingIn, source, giving}
+use Rattle.session.specs.Session.{sessionAnswer, takingIn, givingSponge, giving}
 use Rattle.session.specs.History.{SessionCall, takes, gives, called, numbers, tableNumbers}
 
 abbrev isGiving : Phase → Bool
@@ -18,11 +18,11 @@ isGiving (Taking p) = false
 isGiving (Giving p) = true
 
 abbrev session : List ℕ → Phase → ℕ → ℕ → ℕ → Bool → Session
-session a ph t g x k = record { lanes = a; phase = ph; taken = t; given = g; limit = maxOutput; suffix = x; keyed = k }
+session a ph t g x k = record { lanes = a; phase = ph; taken = t; given = g; limit = maxOutput; suffix = x; kmac = k }
 
 -- a call that is refused with r or leads to the session t
 number-one : (refuse : Bool) (r : ℕ) (s t : Session) (cs : List SessionCall) (l m : List ℕ) → numbers s cs ≡ l → numbers t cs ≡ m
-    → cond refuse (step r s) (step 0 t) .number ∷ numbers (cond refuse (step r s) (step 0 t) .session) cs ≡ cond refuse (r ∷ l) (0 ∷ m)
+    → cond refuse (sessionAnswer r s) (sessionAnswer 0 t) .number ∷ numbers (cond refuse (sessionAnswer r s) (sessionAnswer 0 t) .session) cs ≡ cond refuse (r ∷ l) (0 ∷ m)
 number-one true r s t cs l m h i = ap (λ (n : List ℕ). r ∷ n) h
 number-one false r s t cs l m h i = ap (λ (n : List ℕ). 0 ∷ n) i
 
@@ -37,7 +37,7 @@ numbers-table (takes m ∷ cs) a (Taking p) t g x k =
     (numbers-table cs (u .lanes) (Taking (u .position)) (t + length m) g x k)
 numbers-table (takes m ∷ cs) a (Giving p) t g x k = ap (λ (n : List ℕ). 1 ∷ n) (numbers-table cs a (Giving p) t g x k)
 numbers-table (gives out ∷ cs) a ph t g x k =
-    let u : Running = after (length out) (source ph (session a ph t g x k)) in
+    let u : Running = after (length out) (givingSponge ph (session a ph t g x k)) in
     number-one (ltb maxOutput (g + length out)) 6 (session a ph t g x k) (session (u .lanes) (Giving (u .position)) t (g + length out) x k) cs
     (tableNumbers (isGiving ph) t g cs) (tableNumbers true t (g + length out) cs)
     (numbers-table cs a ph t g x k)

@@ -8,18 +8,18 @@ use lib.ListN.{length}
 use Rattle.calls.specs.Start.{Start, startRefusal}
 use Rattle.sponge.specs.Running.{squeezed, after}
 use Rattle.start.specs.Started.{started}
-use Rattle.session.specs.Session.{step, unstarted, opened, begun, takingIn, source, giving, filled}
+use Rattle.session.specs.Session.{sessionAnswer, unstarted, startedSession, begun, takingIn, givingSponge, giving, filled}
 use Rattle.session.specs.Unstarted.{Unstarted}
 
-begun-refused : (s : Start) (k : ℕ) → startRefusal s ≡ suc k → begun s ≡ step (suc k) unstarted
-unfolding begun opened started
+begun-refused : (s : Start) (k : ℕ) → startRefusal s ≡ suc k → begun s ≡ sessionAnswer (suc k) unstarted
+unfolding begun startedSession started
 begun-refused s k h = rw (h, ne-eqb (suc k) 0 (λ z. omega arith))
 
-give-none : giving unstarted 0 ≡ step 0 unstarted
-unfolding giving source after
+give-none : giving unstarted 0 ≡ sessionAnswer 0 unstarted
+unfolding giving givingSponge after
 give-none = refl
 
-give-refused : (n : ℕ) → 0 < n → giving unstarted n ≡ step 6 unstarted
+give-refused : (n : ℕ) → 0 < n → giving unstarted n ≡ sessionAnswer 6 unstarted
 unfolding giving
 give-refused n h = rw (lt-ltb 0 (0 + n) (omega arith))
 
@@ -31,7 +31,7 @@ unwritten (b ∷ out) = rw (lt-ltb 0 (0 + length (b ∷ out)) (omega arith))
 pub could-not-start : (s : Start) (k : ℕ) → startRefusal s ≡ suc k → Unstarted s
 unfolding takingIn
 could-not-start s k h =
-    let e : begun s ≡ step (suc k) unstarted = begun-refused s k h in
+    let e : begun s ≡ sessionAnswer (suc k) unstarted = begun-refused s k h in
     record {
       number = rw (e, h);
       take = λ m. rw e;

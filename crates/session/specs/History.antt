@@ -1,12 +1,13 @@
 -- Calls in a row on one session, accepted and refused: their numbers, the accepted pieces, joined, and the bytes given, joined.
 use mathlib.Core.Bool.{Bool, true, cond}
 use mathlib.Core.List.{List, [], _∷_, _++_}
-use Prim.Native.Nat.{ℕ, zero, suc, _+_}
+use Prim.Native.Nat.{ℕ, _+_}
 use lib.Dec.{ltb}
 use lib.ListN.{length}
+use Rattle.answers.specs.Done.{ifDone}
 use Rattle.calls.specs.Limits.{maxMessage, maxOutput}
 use Rattle.session.specs.declared.Session.{Session}
-use Rattle.session.specs.declared.Step.{Step}
+use Rattle.session.specs.declared.SessionAnswer.{SessionAnswer}
 use Rattle.session.specs.Session.{taking, giving, filled}
 
 -- a piece lent to `take`, or an output lent to `give`, as it was before
@@ -15,7 +16,7 @@ pub data SessionCall : Type 0 where
   gives : (out : List ℕ) → SessionCall
 
 -- what a call hands back
-unfoldable pub called : Session → SessionCall → Step
+unfoldable pub called : Session → SessionCall → SessionAnswer
 called s (takes m) = taking s m
 called s (gives out) = giving s (length out)
 
@@ -25,14 +26,9 @@ pieceOf (takes m) = m
 pieceOf (gives out) = []
 
 -- the bytes that a call hands out
-abbrev pub outputOf : Session → SessionCall → List ℕ
-outputOf s (takes m) = []
-outputOf s (gives out) = filled s out
-
--- of a call that is answered with k: a refused one counts for nothing
-abbrev pub accepted : ℕ → List ℕ → List ℕ
-accepted zero l = l
-accepted (suc k) l = []
+abbrev pub givenBy : Session → SessionCall → List ℕ
+givenBy s (takes m) = []
+givenBy s (gives out) = filled s out
 
 unfoldable pub sessionAfter : Session → List SessionCall → Session
 sessionAfter s [] = s
@@ -42,15 +38,15 @@ unfoldable pub numbers : Session → List SessionCall → List ℕ
 numbers s [] = []
 numbers s (c ∷ cs) = called s c .number ∷ numbers (called s c .session) cs
 
--- the accepted pieces, joined
-unfoldable pub pieces : Session → List SessionCall → List ℕ
-pieces s [] = []
-pieces s (c ∷ cs) = accepted (called s c .number) (pieceOf c) ++ pieces (called s c .session) cs
+-- the accepted pieces, joined: a refused call counts for nothing
+unfoldable pub acceptedPieces : Session → List SessionCall → List ℕ
+acceptedPieces s [] = []
+acceptedPieces s (c ∷ cs) = ifDone (called s c .number) (pieceOf c) [] ++ acceptedPieces (called s c .session) cs
 
 -- the bytes given, joined
 unfoldable pub output : Session → List SessionCall → List ℕ
 output s [] = []
-output s (c ∷ cs) = accepted (called s c .number) (outputOf s c) ++ output (called s c .session) cs
+output s (c ∷ cs) = ifDone (called s c .number) (givenBy s c) [] ++ output (called s c .session) cs
 
 -- The table's numbers (document 01, 'Numbers a caller gets back') for calls in a row, by what was accepted before: whether the session is giving, for which
 -- an ask for no bytes is enough, and the totals taken and given.

@@ -9,11 +9,11 @@ use Rattle.calls.specs.Start.{Start}
 use Rattle.calls.specs.Call.{Accepted, fed, extendableCall}
 use Rattle.sponge.specs.Sponge.{sponge}
 use Rattle.session.specs.Session.{begun, taking}
-use Rattle.session.specs.History.{SessionCall, sessionAfter, numbers, pieces, output, tableNumbers}
+use Rattle.session.specs.History.{SessionCall, sessionAfter, numbers, acceptedPieces, output, tableNumbers}
 
 -- for the calls cs from the start s: the accepted pieces, joined, and the bytes given, joined
 abbrev pub joinedPieces : Start → List SessionCall → List ℕ
-joinedPieces s cs = pieces (begun s .session) cs
+joinedPieces s cs = acceptedPieces (begun s .session) cs
 
 abbrev pub joinedOutput : Start → List SessionCall → List ℕ
 joinedOutput s cs = output (begun s .session) cs

@@ -15,10 +15,10 @@ use Rattle.start.specs.Started.{started}
 use Rattle.session.specs.declared.Phase.{Phase}
 use Rattle.session.specs.declared.Phase.the-variants.{Taking, Giving}
 use Rattle.session.specs.declared.Session.{Session}
-use Rattle.session.specs.declared.Step.{Step}
+use Rattle.session.specs.declared.SessionAnswer.{SessionAnswer}
 
-abbrev pub step : ℕ → Session → Step
-step k s = record { number = k; session = s }
+abbrev pub sessionAnswer : ℕ → Session → SessionAnswer
+sessionAnswer k s = record { number = k; session = s }
 
 -- Start
 
@@ -32,7 +32,7 @@ initial t k =
       given = 0;
       limit = maxOutput;
       suffix = t .suffix;
-      keyed = k;
+      kmac = k;
     }
 
 -- a session that could not start: giving, with nothing to give
@@ -45,20 +45,20 @@ unstarted =
       given = 0;
       limit = 0;
       suffix = 0;
-      keyed = false;
+      kmac = false;
     }
 
-unfoldable pub opened : Started → Bool → Step
-opened t k = cond (eqb (t .number) 0) (step 0 (initial t k)) (step (t .number) unstarted)
+unfoldable pub startedSession : Started → Bool → SessionAnswer
+startedSession t k = cond (eqb (t .number) 0) (sessionAnswer 0 (initial t k)) (sessionAnswer (t .number) unstarted)
 
 -- whether right_encode(0) follows the message
-abbrev pub isKeyed : Start → Bool
-isKeyed (named N S) = false
-isKeyed (keyed K S) = true
+abbrev pub isKmac : Start → Bool
+isKmac (named N S) = false
+isKmac (keyed K S) = true
 
 -- cSHAKE256 by its name and customisation, KMACXOF256 by its key and customisation
-unfoldable pub begun : Start → Step
-begun s = opened (started s) (isKeyed s)
+unfoldable pub begun : Start → SessionAnswer
+begun s = startedSession (started s) (isKmac s)
 
 -- Take
 
@@ -72,30 +72,30 @@ afterTaking s n u =
       given = s .given;
       limit = s .limit;
       suffix = s .suffix;
-      keyed = s .keyed;
+      kmac = s .kmac;
     }
 
-unfoldable pub takingIn : Phase → Session → List ℕ → Step
+unfoldable pub takingIn : Phase → Session → List ℕ → SessionAnswer
 takingIn (Taking p) s m =
-    cond (ltb maxMessage (s .taken + length m)) (step 5 s)
-    (step 0 (afterTaking s (length m) (absorbed (running (s .lanes) (p % 136)) m)))
-takingIn (Giving p) s m = step 1 s
+    cond (ltb maxMessage (s .taken + length m)) (sessionAnswer 5 s)
+    (sessionAnswer 0 (afterTaking s (length m) (absorbed (running (s .lanes) (p % 136)) m)))
+takingIn (Giving p) s m = sessionAnswer 1 s
 
 -- a piece m
-abbrev pub taking : Session → List ℕ → Step
+abbrev pub taking : Session → List ℕ → SessionAnswer
 taking s m = takingIn (s .phase) s m
 
 -- Give
 
--- what follows the message, where k says whether the session is keyed
+-- what follows the message, where k says whether the session is of KMACXOF256
 unfoldable pub inputEnd : Bool → List ℕ
 inputEnd true = rightEncode 0
 inputEnd false = []
 
 -- the sponge that a session gives from: the first ask ends the input
-unfoldable pub source : Phase → Session → Running
-source (Taking p) s = finished (s .suffix) (absorbed (running (s .lanes) (p % 136)) (inputEnd (s .keyed)))
-source (Giving p) s = running (s .lanes) p
+unfoldable pub givingSponge : Phase → Session → Running
+givingSponge (Taking p) s = finished (s .suffix) (absorbed (running (s .lanes) (p % 136)) (inputEnd (s .kmac)))
+givingSponge (Giving p) s = running (s .lanes) p
 
 -- the session with n more bytes given, which led to the sponge u
 abbrev pub afterGiving : Session → ℕ → Running → Session
@@ -107,13 +107,13 @@ afterGiving s n u =
       given = s .given + n;
       limit = s .limit;
       suffix = s .suffix;
-      keyed = s .keyed;
+      kmac = s .kmac;
     }
 
 -- an ask for n bytes
-unfoldable pub giving : Session → ℕ → Step
-giving s n = cond (ltb (s .limit) (s .given + n)) (step 6 s) (step 0 (afterGiving s n (after n (source (s .phase) s))))
+unfoldable pub giving : Session → ℕ → SessionAnswer
+giving s n = cond (ltb (s .limit) (s .given + n)) (sessionAnswer 6 s) (sessionAnswer 0 (afterGiving s n (after n (givingSponge (s .phase) s))))
 
 -- the lent output after the ask
 unfoldable pub filled : Session → List ℕ → List ℕ
-filled s out = cond (ltb (s .limit) (s .given + length out)) out (squeezed (length out) (source (s .phase) s))
+filled s out = cond (ltb (s .limit) (s .given + length out)) out (squeezed (length out) (givingSponge (s .phase) s))

@@ -5,7 +5,7 @@ ghost use Prim.Native.Nat.{_%_};
 ghost use lib.ListN.{length};
 ghost use Rattle.calls.specs.Start.{named, keyed};
 ghost use Rattle.sponge.specs.Running.{running, absorbed, finished};
-ghost use Rattle.session.specs.Session.{step, opened, begun, taking, inputEnd, source, giving, filled};
+ghost use Rattle.session.specs.Session.{sessionAnswer, startedSession, begun, taking, inputEnd, givingSponge, giving, filled};
 use calls::MAX_MESSAGE;
 use calls::MAX_OUTPUT;
 use sponge::absorb;
@@ -31,35 +31,35 @@ pub struct Session {
     pub limit: usize,
     // The byte after the input: 1F for SHAKE256, else 04.
     pub suffix: u8,
-    // Whether right_encode(0) follows the message, as in KMACXOF256.
-    pub keyed: bool,
+    // Whether it is of KMACXOF256: right_encode(0) then follows the message.
+    pub kmac: bool,
 }
 
 // What a call hands back: its number and the session after it.
-pub struct Step {
+pub struct SessionAnswer {
     pub number: u8,
     pub session: Session,
 }
 
 // The sponge that a session gives from.
-struct Source {
+struct Sponge {
     lanes: [u64; 25],
     position: usize,
 }
 
-fn refuse(number: u8, session: Session) -> Step
-    ensures { λ r. ⌜ r ≡ step number session ⌝ }
+fn refuse(number: u8, session: Session) -> SessionAnswer
+    ensures { λ r. ⌜ r ≡ sessionAnswer number session ⌝ }
 {
-    Step { number, session }
+    SessionAnswer { number, session }
 }
 
 // The session of a start. A refused start hands back a fresh session that is giving and has nothing to give.
-fn open(start: Started, keyed: bool) -> Step
-    ensures { λ r. ⌜ r ≡ opened start keyed ⌝ }
+fn start_session(start: Started, kmac: bool) -> SessionAnswer
+    ensures { λ r. ⌜ r ≡ startedSession start kmac ⌝ }
 {
     let number = start.number;
     if number != 0 {
-        return Step {
+        return SessionAnswer {
             number,
             session: Session {
                 lanes: [0u64; 25],
@@ -68,12 +68,12 @@ fn open(start: Started, keyed: bool) -> Step
                 given: 0,
                 limit: 0,
                 suffix: 0,
-                keyed: false,
+                kmac: false,
             },
         };
     }
     let lanes = start.lanes;
-    Step {
+    SessionAnswer {
         number: 0,
         session: Session {
             lanes,
@@ -82,27 +82,27 @@ fn open(start: Started, keyed: bool) -> Step
             given: 0,
             limit: MAX_OUTPUT,
             suffix: start.suffix,
-            keyed,
+            kmac,
         },
     }
 }
 
 // A session of cSHAKE256. Refusals: 3 and 4.
-pub fn start_cshake256(name: &[u8], customisation: &[u8]) -> Step
+pub fn start_cshake256(name: &[u8], customisation: &[u8]) -> SessionAnswer
     ensures { λ r. ⌜ r ≡ begun (named (now (name .entry)) (now (customisation .entry))) ⌝ }
 {
-    open(start_named(name, customisation), false)
+    start_session(start_named(name, customisation), false)
 }
 
 // A session of KMACXOF256. Refusals: 2 and 3.
-pub fn start_kmacxof256(key: &[u8], customisation: &[u8]) -> Step
+pub fn start_kmacxof256(key: &[u8], customisation: &[u8]) -> SessionAnswer
     ensures { λ r. ⌜ r ≡ begun (keyed (now (key .entry)) (now (customisation .entry))) ⌝ }
 {
-    open(start_keyed(key, customisation), true)
+    start_session(start_keyed(key, customisation), true)
 }
 
 // A piece of the message. Refusals: 1 where the session is giving, 5 where the total with this piece exceeds the limit.
-pub fn take(s: Session, piece: &[u8]) -> Step
+pub fn take(s: Session, piece: &[u8]) -> SessionAnswer
     ensures { λ r. ⌜ r ≡ taking s (now (piece .entry)) ⌝ }
 {
     let phase = s.phase;
@@ -118,7 +118,7 @@ pub fn take(s: Session, piece: &[u8]) -> Step
     }
     let mut lanes = s.lanes;
     let position = absorb(&mut lanes, at, piece);
-    Step {
+    SessionAnswer {
         number: 0,
         session: Session {
             lanes,
@@ -127,16 +127,16 @@ pub fn take(s: Session, piece: &[u8]) -> Step
             given: s.given,
             limit: s.limit,
             suffix: s.suffix,
-            keyed: s.keyed,
+            kmac: s.kmac,
         },
     }
 }
 
-// The end of the input at `position`: right_encode(0) where the session is keyed, then the suffix byte and the padding.
-fn end_input(lanes: &mut [u64; 25], position: usize, keyed: bool, suffix: u8)
-    ensures { λ r. ⌜ running (now (lanes .exit)) 0 ≡ finished suffix (absorbed (running (now (lanes .entry)) (position % 136)) (inputEnd keyed)) ⌝ }
+// The end of the input at `position`: right_encode(0) where it is KMACXOF256, then the suffix byte and the padding.
+fn end_input(lanes: &mut [u64; 25], position: usize, kmac: bool, suffix: u8)
+    ensures { λ r. ⌜ running (now (lanes .exit)) 0 ≡ finished suffix (absorbed (running (now (lanes .entry)) (position % 136)) (inputEnd kmac)) ⌝ }
 {
-    if keyed {
+    if kmac {
         let after = absorb(lanes, position, b"\x00\x01");
         finish(lanes, after, suffix);
         return;
@@ -145,17 +145,17 @@ fn end_input(lanes: &mut [u64; 25], position: usize, keyed: bool, suffix: u8)
 }
 
 // The first ask ends the input.
-fn source_of(s: Session) -> Source
-    ensures { λ r. ⌜ running (r .lanes) (r .position) ≡ source (s .phase) s ⌝ }
+fn giving_sponge(s: Session) -> Sponge
+    ensures { λ r. ⌜ running (r .lanes) (r .position) ≡ givingSponge (s .phase) s ⌝ }
 {
     let phase = s.phase;
     let mut lanes = s.lanes;
     match phase {
         Phase::Taking(at) => {
-            end_input(&mut lanes, at, s.keyed, s.suffix);
-            Source { lanes, position: 0 }
+            end_input(&mut lanes, at, s.kmac, s.suffix);
+            Sponge { lanes, position: 0 }
         }
-        Phase::Giving(at) => Source {
+        Phase::Giving(at) => Sponge {
             lanes,
             position: at,
         },
@@ -163,7 +163,7 @@ fn source_of(s: Session) -> Source
 }
 
 // The next bytes of output, which fill `out`; from then on the session is giving, be `out` empty. Refusal: 6 where the total would exceed the limit.
-pub fn give(s: Session, out: &mut [u8]) -> Step
+pub fn give(s: Session, out: &mut [u8]) -> SessionAnswer
     ensures { λ r. ⌜ (r ≡ giving s (length (now (out .entry)))) × (now (out .exit) ≡ filled s (now (out .entry))) ⌝ }
 {
     let given = s.given;
@@ -175,10 +175,10 @@ pub fn give(s: Session, out: &mut [u8]) -> Step
     if limit - given < n {
         return refuse(6, s);
     }
-    let from = source_of(s);
+    let from = giving_sponge(s);
     let mut lanes = from.lanes;
     let position = squeeze(&mut lanes, from.position, out);
-    Step {
+    SessionAnswer {
         number: 0,
         session: Session {
             lanes,
@@ -187,7 +187,7 @@ pub fn give(s: Session, out: &mut [u8]) -> Step
             given: given + n,
             limit,
             suffix: s.suffix,
-            keyed: s.keyed,
+            kmac: s.kmac,
         },
     }
 }

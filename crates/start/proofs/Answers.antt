@@ -16,14 +16,14 @@ use Rattle.calls.specs.Laws.Refusal.{test-passed}
 use Rattle.sponge.specs.Running.{Running, running, fresh, absorbed}
 use Rattle.sponge.proofs.Absorbing.{absorbed-append}
 use Rattle.start.specs.declared.Started.{Started}
-use Rattle.start.specs.Started.{accepted, refused, startedWith, started, Starts}
+use Rattle.start.specs.Started.{afterPrefix, refusedStart, startAnswer, started, Starts}
 use Rattle.start.specs.Prefix.{Padded}
 
-pub refused-starts : (s : Start) (k : ℕ) (r : Started) → k ≡ startRefusal s → (k ≡ 0 → ⊥) → r ≡ refused k → Starts s r
+pub refused-starts : (s : Start) (k : ℕ) (r : Started) → k ≡ startRefusal s → (k ≡ 0 → ⊥) → r ≡ refusedStart k → Starts s r
 unfolding started
 refused-starts s zero r e some is = absurd (some refl)
 refused-starts s (suc k) r e some is =
-    record { is = is ∙ ap (λ (n : ℕ). startedWith n s) e; few = omega (arith, ap (λ (t : Started). t .blocks) is) }
+    record { is = is ∙ ap (λ (n : ℕ). startAnswer n s) e; bounded = omega (arith, ap (λ (t : Started). t .blocks) is) }
 
 -- an accepted start keeps the limits
 pub named-lengths : (N S : List ℕ) → startRefusal (named N S) ≡ 0 → (length N ≤ 4096) × (length S ≤ 4096)
@@ -40,9 +40,9 @@ keyed-lengths K S e =
     let s = test-passed (ltb 4096 (length S)) 2 _ (k .1) in
     (ltb-false 4096 (length K) (k .0), ltb-false 4096 (length S) (s .0))
 
-accepted-starts : (s : Start) (r : Started) → startRefusal s ≡ 0 → r ≡ accepted s → r .blocks ≤ 128 → Starts s r
+accepted-starts : (s : Start) (r : Started) → startRefusal s ≡ 0 → r ≡ afterPrefix s → r .blocks ≤ 128 → Starts s r
 unfolding started
-accepted-starts s r e is few = record { is = is ∙ sym (ap (λ (n : ℕ). startedWith n s) e); few = few }
+accepted-starts s r e is bounded = record { is = is ∙ sym (ap (λ (n : ℕ). startAnswer n s) e); bounded = bounded }
 
 abbrev answer : List ℕ → ℕ → ℕ → Started
 answer lanes suffix blocks = record { number = 0; lanes = lanes; suffix = suffix; blocks = blocks }
@@ -61,16 +61,16 @@ named-starts N S b k e some p =
     let named-one : isShake N S ≡ false = isShake-lengths N S ∙ ne-eqb (length N + length S) 0 some in
     accepted-starts (named N S) (answer b 0x04 k) e
     (rw named-one (λ i. answer (p .lanes i .lanes) 0x04 (p .blocks i)))
-    (omega (arith, p .few))
+    (omega (arith, p .bounded))
 
 pub keyed-starts : (K S b d : List ℕ) (k l : ℕ) → startRefusal (keyed K S) ≡ 0 → Padded (encodeString KMAC ++ encodeString S) (replicate 25 0) b k
     → Padded (encodeString K) b d l → k + l ≤ 128 → Starts (keyed K S) (answer d 0x04 (k + l))
 unfolding startPrefix startSuffix
-keyed-starts K S b d k l e p q few =
+keyed-starts K S b d k l e p q bounded =
     let x : List ℕ = bytepad (encodeString KMAC ++ encodeString S) 136 in
     let y : List ℕ = bytepad (encodeString K) 136 in
     let lanes : running d 0 ≡ absorbed fresh (x ++ y)
     = q .lanes ∙ ap (λ (u : Running). absorbed u y) (p .lanes) ∙ sym (absorbed-append fresh x y) in
     let n : k + l ≡ length (x ++ y) / 136
     = omega (arith, length-append x y, bytepad-blocks (encodeString KMAC ++ encodeString S), bytepad-blocks (encodeString K), p .blocks, q .blocks) in
-    accepted-starts (keyed K S) (answer d 0x04 (k + l)) e (λ i. answer (lanes i .lanes) 0x04 (n i)) few
+    accepted-starts (keyed K S) (answer d 0x04 (k + l)) e (λ i. answer (lanes i .lanes) 0x04 (n i)) bounded

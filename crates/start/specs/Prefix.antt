@@ -10,4 +10,4 @@ use Rattle.sponge.specs.Running.{running, absorbed}
 pub record Padded (x a b : List ℕ) (r : ℕ) : Type 0 where
   pub lanes : running b 0 ≡ absorbed (running a 0) (bytepad x 136)
   pub blocks : r ≡ length (bytepad x 136) / 136
-  pub few : r ≤ 64
+  pub bounded : r ≤ 64

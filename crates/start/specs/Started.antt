@@ -1,14 +1,15 @@
 -- What a start hands back: the refusal number, and the sponge after the bytes before the message.
-use Prim.Native.Nat.{ℕ, zero, suc, _/_, _≤_}
+use Prim.Native.Nat.{ℕ, _/_, _≤_}
 use mathlib.Core.Path.{_≡_}
 use lib.ListN.{length, replicate}
+use Rattle.answers.specs.Done.{ifDone}
 use Rattle.calls.specs.Start.{Start, startRefusal, startPrefix, startSuffix}
 use Rattle.sponge.specs.Running.{fresh, absorbed}
 use Rattle.start.specs.declared.Started.{Started}
 
 -- an accepted start: the prefix is whole blocks, so the message begins at position 0
-abbrev pub accepted : Start → Started
-accepted s =
+abbrev pub afterPrefix : Start → Started
+afterPrefix s =
     record {
       number = 0;
       lanes = absorbed fresh (startPrefix s) .lanes;
@@ -16,17 +17,17 @@ accepted s =
       blocks = length (startPrefix s) / 136;
     }
 
-abbrev pub refused : ℕ → Started
-refused k = record { number = k; lanes = replicate 25 0; suffix = 0; blocks = 0 }
+abbrev pub refusedStart : ℕ → Started
+refusedStart k = record { number = k; lanes = replicate 25 0; suffix = 0; blocks = 0 }
 
-abbrev pub startedWith : ℕ → Start → Started
-startedWith zero s = accepted s
-startedWith (suc k) s = refused (suc k)
+-- by its number
+abbrev pub startAnswer : ℕ → Start → Started
+startAnswer k s = ifDone k (afterPrefix s) (refusedStart k)
 
 unfoldable pub started : Start → Started
-started s = startedWith (startRefusal s) s
+started s = startAnswer (startRefusal s) s
 
 -- the answer, with a bound on its blocks: two strings of 4,096 bytes take at most 62 blocks together
 pub record Starts (s : Start) (r : Started) : Type 0 where
   pub is : r ≡ started s
-  pub few : r .blocks ≤ 128
+  pub bounded : r .blocks ≤ 128

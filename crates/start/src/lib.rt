@@ -1,7 +1,7 @@
 // How a call or a session starts: the bytes before the message put into the sponge (SP 800-185, 3.3 and 4.3), or the refusal numbers 2, 3 and 4.
 ghost use mathlib.Core.Path.{_≡_};
 ghost use Rattle.calls.specs.Start.{named, keyed};
-ghost use Rattle.start.specs.Started.{refused, Starts};
+ghost use Rattle.start.specs.Started.{refusedStart, Starts};
 use calls::KMAC;
 use prefix::absorb_key;
 use prefix::absorb_name;
@@ -20,7 +20,7 @@ pub struct Started {
 }
 
 fn refuse(number: u8) -> Started
-    ensures { λ r. ⌜ r ≡ refused number ⌝ }
+    ensures { λ r. ⌜ r ≡ refusedStart number ⌝ }
 {
     Started {
         number,

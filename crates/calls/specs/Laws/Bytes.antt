@@ -12,7 +12,7 @@ use Rattle.encode.specs.Laws.Bytes.{Bytes, append-bytes, encodeString-bytes, ri
 use Rattle.calls.specs.Limits.{maxKey, maxName, maxCustomisation, maxOutput}
 use Rattle.calls.specs.Input.{isShake, cshakePrefix}
 use Rattle.calls.specs.Start.{Start, named, keyed, startRefusal, startPrefix, startSuffix}
-use Rattle.calls.specs.Call.{Function, cSHAKE256, KMAC256, KMACXOF256, Call, startOf, messageOf, outputOf, outputRefusal, Accepted, fed, ending}
+use Rattle.calls.specs.Call.{Function, cSHAKE256, KMAC256, KMACXOF256, Call, startOf, messageOf, outputBytes, outputRefusal, Accepted, fed, ending}
 use Rattle.calls.specs.Laws.Refusal.{test-passed, start-accepted, output-accepted}
 use Rattle.calls.specs.Laws.Fed.{fed-parts}
 
@@ -67,7 +67,7 @@ pub fed-bytes : {f : Function} (c : Call f) → Accepted c → StartBytes (start
 fed-bytes {f} c h p q =
     let s = startOf c in
     rw (fed-parts c)
-    (padded-bytes (startSuffix s) (startPrefix s ++ messageOf c ++ ending f (outputOf c)) (startSuffix-byte s)
-    (append-bytes (startPrefix s ++ messageOf c) (ending f (outputOf c))
+    (padded-bytes (startSuffix s) (startPrefix s ++ messageOf c ++ ending f (outputBytes c)) (startSuffix-byte s)
+    (append-bytes (startPrefix s ++ messageOf c) (ending f (outputBytes c))
     (append-bytes (startPrefix s) (messageOf c) (startPrefix-bytes s (start-accepted c h) p) q)
-    (ending-bytes f (outputOf c) (output-accepted c h))))
+    (ending-bytes f (outputBytes c) (output-accepted c h))))

@@ -11,14 +11,14 @@ use Rattle.encode.specs.Laws.Lengths.{bytepad-blocks}
 use Rattle.encode.specs.Laws.Padding.{padded-after}
 use Rattle.calls.specs.Input.{fedBytes}
 use Rattle.calls.specs.Start.{Start, named, keyed, startPrefix, startSuffix}
-use Rattle.calls.specs.Call.{Function, Call, cshake256, kmac256, kmacxof256, startOf, messageOf, outputOf, kmacInput, fed, ending, extendable, extendableCall}
+use Rattle.calls.specs.Call.{Function, Call, cshake256, kmac256, kmacxof256, startOf, messageOf, outputBytes, kmacInput, fed, ending, extendable, extendableCall}
 use Rattle.calls.specs.Laws.Input.{cshakePrefix-blocks}
 
 kmac-parts : (K X : List ℕ) (L : ℕ) (S : List ℕ) → fedBytes (kmacInput K X L S) ≡ padded (startSuffix (keyed K S)) (startPrefix (keyed K S) ++ X ++ rightEncode L)
 unfolding fedBytes startPrefix startSuffix
 kmac-parts K X L S = ap (padded 0x04) (simp append-assoc)
 
-pub fed-parts : {f : Function} (c : Call f) → fed c ≡ padded (startSuffix (startOf c)) (startPrefix (startOf c) ++ messageOf c ++ ending f (outputOf c))
+pub fed-parts : {f : Function} (c : Call f) → fed c ≡ padded (startSuffix (startOf c)) (startPrefix (startOf c) ++ messageOf c ++ ending f (outputBytes c))
 unfolding fed fedBytes startPrefix startSuffix
 fed-parts (cshake256 X n N S) = rw append-nil
 fed-parts (kmac256 K X n S) = kmac-parts K X (8 * n) S
@@ -34,7 +34,7 @@ pub extendable-message : (s : Start) (X : List ℕ) (n : ℕ) → messageOf (ext
 extendable-message (named N S) X n = refl
 extendable-message (keyed K S) X n = refl
 
-pub extendable-output : (s : Start) (X : List ℕ) (n : ℕ) → outputOf (extendableCall s X n) ≡ n
+pub extendable-output : (s : Start) (X : List ℕ) (n : ℕ) → outputBytes (extendableCall s X n) ≡ n
 extendable-output (named N S) X n = refl
 extendable-output (keyed K S) X n = refl
 
@@ -52,11 +52,11 @@ startPrefix-blocks (keyed K S) =
     rw length-append (omega (arith, cshakePrefix-blocks KMAC S, bytepad-blocks (encodeString K)))
 
 -- so it stands before the padded message as it is
-pub fed-after-prefix : {f : Function} (c : Call f) → fed c ≡ startPrefix (startOf c) ++ padded (startSuffix (startOf c)) (messageOf c ++ ending f (outputOf c))
+pub fed-after-prefix : {f : Function} (c : Call f) → fed c ≡ startPrefix (startOf c) ++ padded (startSuffix (startOf c)) (messageOf c ++ ending f (outputBytes c))
 fed-after-prefix {f} c =
     fed-parts c
     ∙ rw append-assoc
-    (padded-after (startSuffix (startOf c)) (startPrefix (startOf c)) (messageOf c ++ ending f (outputOf c)) (startPrefix-blocks (startOf c)))
+    (padded-after (startSuffix (startOf c)) (startPrefix (startOf c)) (messageOf c ++ ending f (outputBytes c)) (startPrefix-blocks (startOf c)))
 
 -- key, message and encoded number can be told apart
 pub kmacMessage-fixes : (K X K′ X′ : List ℕ) (L L′ : ℕ) → bytepad (encodeString K) 136 ++ X ++ rightEncode L ≡ bytepad (encodeString K′) 136 ++ X′ ++ rightEncode L′ → (K ≡ K′) × (X ≡ X′) × (L ≡ L′)

@@ -7,10 +7,11 @@ use native.Mathlib.Omega.{arith}
 use borrow.Author.Tests.{eqb-true, eq-eqb, lt-ltb, le-ltb, ltb-false}
 use lib.Dec.{ltb, eqb}
 use lib.ListN.{length}
+use Rattle.answers.specs.Done.{ifDone, firstOf}
 use Rattle.calls.specs.Limits.{maxMessage}
 use Rattle.calls.specs.Start.{sameBytes, startRefusal}
-use Rattle.calls.specs.Call.{Function, Call, startOf, messageOf, outputOf, messageRefusal, outputRefusal, firstOf, refusal, Accepted}
-use Rattle.calls.specs.Count.{runs, reportedWith, count}
+use Rattle.calls.specs.Call.{Function, Call, startOf, messageOf, outputBytes, messageRefusal, outputRefusal, refusal, Accepted}
+use Rattle.calls.specs.Count.{runs, reportedRuns}
 
 -- a test whose number is not given does not hold
 pub test-passed : (t : Bool) (k later : ℕ) → cond t (suc k) later ≡ 0 → (t ≡ false) × (later ≡ 0)
@@ -37,20 +38,20 @@ module _ {f : Function} (c : Call f) where
   unfolding refusal
   refusal-message s h = rw (s, lt-ltb maxMessage (length (messageOf c)) h)
 
-  pub refusal-output : startRefusal (startOf c) ≡ 0 → length (messageOf c) ≤ maxMessage → refusal c ≡ outputRefusal f (outputOf c)
+  pub refusal-output : startRefusal (startOf c) ≡ 0 → length (messageOf c) ≤ maxMessage → refusal c ≡ outputRefusal f (outputBytes c)
   unfolding refusal
   refusal-output s h = rw (s, le-ltb maxMessage (length (messageOf c)) h)
 
-  pub count-refused : (refusal c ≡ 0 → ⊥) → count c ≡ 0
-  unfolding count
+  pub count-refused : (refusal c ≡ 0 → ⊥) → reportedRuns c ≡ 0
+  unfolding reportedRuns
   count-refused h = go (refusal c) h
     where
-      go : (k : ℕ) → (k ≡ 0 → ⊥) → reportedWith k (runs c) ≡ 0
+      go : (k : ℕ) → (k ≡ 0 → ⊥) → ifDone k (runs c) 0 ≡ 0
       go zero h = absurd (h refl)
       go (suc k) h = refl
 
-  pub count-accepted : Accepted c → count c ≡ runs c
-  unfolding count
+  pub count-accepted : Accepted c → reportedRuns c ≡ runs c
+  unfolding reportedRuns
   count-accepted h = rw h
 
   -- What an accepted call has passed
@@ -65,7 +66,7 @@ module _ {f : Function} (c : Call f) where
       let passed = firstOf-passed (messageRefusal (length (messageOf c))) _ (firstOf-passed (startRefusal (startOf c)) _ h .1) in
       ltb-false maxMessage (length (messageOf c)) (test-passed (ltb maxMessage (length (messageOf c))) 4 0 (passed .0) .0)
 
-  pub output-accepted : Accepted c → outputRefusal f (outputOf c) ≡ 0
+  pub output-accepted : Accepted c → outputRefusal f (outputBytes c) ≡ 0
   unfolding refusal
   output-accepted h =
       firstOf-passed (messageRefusal (length (messageOf c))) _ (firstOf-passed (startRefusal (startOf c)) _ h .1) .1

@@ -11,7 +11,7 @@ use Rattle.encode.specs.Encode.{encodeString, rightEncode, bytepad, KMAC}
 use Rattle.encode.specs.Laws.Lengths.{blocks, stringLength, length-encodeString, length-rightEncode, length-bytepad, length-padded}
 use Rattle.calls.specs.Input.{cshakePrefix}
 use Rattle.calls.specs.Start.{Start, named, keyed, startPrefix}
-use Rattle.calls.specs.Call.{Function, cSHAKE256, KMAC256, KMACXOF256, Call, startOf, messageOf, outputOf, ending}
+use Rattle.calls.specs.Call.{Function, cSHAKE256, KMAC256, KMACXOF256, Call, startOf, messageOf, outputBytes, ending}
 use Rattle.calls.specs.Count.{outputRuns, runs}
 use Rattle.calls.specs.Laws.Input.{isShake-lengths}
 use Rattle.calls.specs.Laws.Fed.{fed-parts}
@@ -50,7 +50,7 @@ length-ending cSHAKE256 n = refl
 length-ending KMAC256 n = length-rightEncode (8 * n)
 length-ending KMACXOF256 n = length-rightEncode 0
 
-pub runs-by-lengths : {f : Function} (c : Call f) → runs c ≡ startBlocks (startOf c) + (length (messageOf c) + endingLength f (outputOf c)) / 136 + 1 + outputRuns (outputOf c)
+pub runs-by-lengths : {f : Function} (c : Call f) → runs c ≡ startBlocks (startOf c) + (length (messageOf c) + endingLength f (outputBytes c)) / 136 + 1 + outputRuns (outputBytes c)
 unfolding runs
 runs-by-lengths {f} c =
     rw (fed-parts c, length-padded)

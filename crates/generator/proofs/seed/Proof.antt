@@ -42,10 +42,10 @@ absorb-encoded-requires : tie.Need-absorb-encoded-requires
 absorb-encoded-requires c κs = tested (c .before .before .before .before .before .before .before .before) .1
 
 add-t29 : tie.Need-add-t29
-add-t29 c = omega (arith, c .before .before .before .before .before .before .before .before .before .before .before .before .start-named .ensures .few, tested (c .before .before .before .before .before .before .before .before .before .before .before .before .before .before .before .before))
+add-t29 c = omega (arith, c .before .before .before .before .before .before .before .before .before .before .before .before .start-named .ensures .bounded, tested (c .before .before .before .before .before .before .before .before .before .before .before .before .before .before .before .before))
 
 add-t30 : tie.Need-add-t30
-add-t30 c = omega (arith, c .before .before .before .before .before .before .before .before .before .before .before .before .start-named .ensures .few, tested (c .before .before .before .before .before .before .before .before .before .before .before .before .before .before .before .before))
+add-t30 c = omega (arith, c .before .before .before .before .before .before .before .before .before .before .before .before .start-named .ensures .bounded, tested (c .before .before .before .before .before .before .before .before .before .before .before .before .before .before .before .before))
 
 returns-2 : tie.Need-returns-2
 returns-2 c =

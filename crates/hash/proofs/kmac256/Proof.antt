@@ -52,7 +52,7 @@ run-requires c κs =
     let code = c .before .before .before .right-encode .ensures in
     let t = tested (c .before .before .before .before .before) in
     record {
-      start = c .before .before .before .before .before .before .before .start-keyed .ensures .few;
+      start = c .before .before .before .before .before .before .before .start-keyed .ensures .bounded;
       message = t .1;
       ending = omega (arith, code .fits, answers-take code);
       output = t .2;

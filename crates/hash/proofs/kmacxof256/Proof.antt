@@ -27,7 +27,7 @@ run-requires c κs =
     let s = c .before .before .before .before .before .before .before .before .before in
     let start = c .before .before .before .before .start-keyed in
     let fits = passed (call s) (start .result) (start .ensures) (sym (c .before .before .before .first-refusal .ensures) ∙ c .before .before .if1 .left) in
-    record { start = start .ensures .few; message = fits .1; ending = omega arith; output = fits .2 }
+    record { start = start .ensures .bounded; message = fits .1; ending = omega arith; output = fits .2 }
 
 returns-2 : tie.Need-returns-2
 unfolding rightEncode bigEndian widthIn

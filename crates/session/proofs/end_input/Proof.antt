@@ -1,4 +1,4 @@
--- The two bytes are right_encode(0), and the position after them is below 136; a session that is not keyed ends where it stands.
+-- The two bytes are right_encode(0), and the position after them is below 136; a session of cSHAKE256 ends where it stands.
 use mathlib.Core.Path.{_≡_, ap, _∙_}
 use Prim.Native.Nat.{_%_}
 use native.Mathlib.Nat.{mod-eq-of-lt}

@@ -1,4 +1,4 @@
--- The two tests are that of `giving`: their sum exceeds the limit where one of them does. Past them the output comes from `source`.
+-- The two tests are that of `giving`: their sum exceeds the limit where one of them does. Past them the output comes from `givingSponge`.
 use mathlib.Core.Path.{ap, _∙_}
 use Prim.Native.Nat.{_+_, _<_, _≤_}
 use native.Mathlib.Omega.{arith}
@@ -6,7 +6,7 @@ use borrow.Author.Needs.{needs}
 use borrow.Author.Tests.{lt-ltb, le-ltb}
 use lib.ListN.{length}
 use Rattle.sponge.specs.Running.{Running, squeezed, after}
-use Rattle.session.specs.Session.{step, afterGiving, giving, filled}
+use Rattle.session.specs.Session.{sessionAnswer, afterGiving, giving, filled}
 use Rattle.session.proofs.give.Statement.{statement}
 use Rattle.session.proofs.give.Tie as tie
 
@@ -30,9 +30,9 @@ returns-3 c =
     let a = c .before .before .before .before .before .before .before .before .before .before .args in
     let h : a .s .given + length (a .out .now) ≤ a .s .limit = omega arith in
     let n = length (a .out .now) in
-    let from = c .before .before .before .before .before .before .source-of .ensures in
+    let from = c .before .before .before .before .before .before .giving-sponge .ensures in
     let out = c .before .before .squeeze .ensures in (
-      rw (le-ltb _ _ h) (ap (λ (u : Running). step 0 (afterGiving (a .s) n u)) (out .0 ∙ ap (after n) from)),
+      rw (le-ltb _ _ h) (ap (λ (u : Running). sessionAnswer 0 (afterGiving (a .s) n u)) (out .0 ∙ ap (after n) from)),
       rw (le-ltb _ _ h) (out .1 ∙ ap (squeezed n) from),
     )
 

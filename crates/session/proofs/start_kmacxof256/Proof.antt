@@ -3,13 +3,13 @@ use mathlib.Core.Path.{ap, _∙_}
 use mathlib.Core.Bool.{true}
 use borrow.Author.Needs.{needs}
 use Rattle.start.specs.declared.Started.{Started}
-use Rattle.session.specs.Session.{opened, begun}
+use Rattle.session.specs.Session.{startedSession, begun}
 use Rattle.session.proofs.start_kmacxof256.Statement.{statement}
 use Rattle.session.proofs.start_kmacxof256.Tie as tie
 
 returns : tie.Need-returns
 unfolding begun
-returns c = c .open .ensures ∙ ap (λ (t : Started). opened t true) (c .before .start-keyed .ensures .is)
+returns c = c .start-session .ensures ∙ ap (λ (t : Started). startedSession t true) (c .before .start-keyed .ensures .is)
 
 pub start-kmacxof256-spec : {M : Type 1} → statement M
 start-kmacxof256-spec = tie.close (tie.spec (λ c κs. search needs) (λ c κs. search needs) returns)

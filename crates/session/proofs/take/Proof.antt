@@ -7,7 +7,7 @@ use borrow.Author.Tests.{lt-ltb, le-ltb}
 use lib.ListN.{length}
 use Rattle.calls.specs.Limits.{maxMessage}
 use Rattle.sponge.specs.Running.{Running}
-use Rattle.session.specs.Session.{step, afterTaking, takingIn}
+use Rattle.session.specs.Session.{sessionAnswer, afterTaking, takingIn}
 use Rattle.session.proofs.take.Statement.{statement}
 use Rattle.session.proofs.take.Tie as tie
 
@@ -35,7 +35,7 @@ returns-4 c =
     let a = c .before .before .before .before .before .before .before .before .before .args in
     let h : a .s .taken + length (a .piece .now) ≤ maxMessage = omega arith in
     rw (c .before .before .before .before .before .before .phase .given .1, le-ltb _ _ h)
-    (ap (λ (u : Running). step 0 (afterTaking (a .s) (length (a .piece .now)) u)) (c .absorb .ensures .0))
+    (ap (λ (u : Running). sessionAnswer 0 (afterTaking (a .s) (length (a .piece .now)) u)) (c .absorb .ensures .0))
 
 pub take-spec : {M : Type 1} → statement M
 take-spec =

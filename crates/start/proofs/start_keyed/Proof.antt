@@ -32,7 +32,7 @@ returns-2 c =
     keyed-starts (a .key .now) (a .customisation .now) (name .last .0) (c .absorb-key .last .0) (name .result) (c .absorb-key .result)
     (sym (c .before .before .before .before .before .before .keyed-refusal .ensures) ∙ c .before .before .before .before .before .if1 .left)
     (name .ensures) (c .absorb-key .ensures)
-    (omega (arith, name .ensures .few, c .absorb-key .ensures .few))
+    (omega (arith, name .ensures .bounded, c .absorb-key .ensures .bounded))
 
 pub start-keyed-spec : {M : Type 1} → statement M
 start-keyed-spec =

@@ -31,7 +31,7 @@ returns c =
           ∙ stream-key key iv a (squeeze .last .0) n (squeeze .result) (start .result) (start .ensures) ok e;
       text = stream-text key iv a (squeeze .last .0) n (squeeze .result) (start .result) (start .ensures) ok e (squeeze .ensures .0 ∙ after32);
       runs = omega (arith, xof-runs (keyStreamCall key iv n) (start .result) (start .ensures) ok, c .output-runs .ensures);
-      few = omega (arith, c .output-runs .ensures, start .ensures .few);
+      few = omega (arith, c .output-runs .ensures, start .ensures .bounded);
     }
 
 pub begin-stream-spec : {M : Type 1} → statement M

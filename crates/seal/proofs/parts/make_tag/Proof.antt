@@ -13,7 +13,7 @@ use Rattle.seal.proofs.parts.make_tag.Tie as tie
 
 few : (s : tie.After-start-keyed) (o : ℕ) → o ≡ outputRuns (length (s .before .before .before .before .before .before .args .tag .now))
     → s .start-keyed .result .blocks + (length (s .before .before .before .before .before .before .args .ciphertext .now) + length (s .before .before .before .before .before .before .args .label .now) + 2) / 136 + 1 + o ≤ 2000000
-few s o e = tag-few _ _ _ o (s .start-keyed .ensures .few) (s .before .before .before .before .before .before .pre .1) (s .before .before .before .before .before .before .pre .2) e
+few s o e = tag-few _ _ _ o (s .start-keyed .ensures .bounded) (s .before .before .before .before .before .before .pre .1) (s .before .before .before .before .before .before .pre .2) e
 
 add-result-5 : tie.Need-add-result-5
 add-result-5 c = count-fits _ (few (c .before .before .before .before .before .before .before .before .before .before .before .before .before .before .before .before .before) (c .output-runs .result) (c .output-runs .ensures))
@@ -58,8 +58,8 @@ make-tag-spec =
     (λ c κs. tt)
     (λ c. message-fits _ (c .before .before .before .before .before .before .before .before .before .before .before .before .before .before .before .before .before .before .before .before .before .pre .1))
     (λ c. ended-fits _ (c .before .before .before .before .before .before .before .before .before .before .before .before .before .before .before .before .before .before .before .before .before .pre .1))
-    (λ c. input-fits _ _ (c .before .before .before .before .before .before .before .before .before .before .before .before .before .before .before .before .start-keyed .ensures .few) (c .before .before .before .before .before .before .before .before .before .before .before .before .before .before .before .before .before .before .before .before .before .before .pre .1) .0)
-    (λ c. input-fits _ _ (c .before .before .before .before .before .before .before .before .before .before .before .before .before .before .before .before .start-keyed .ensures .few) (c .before .before .before .before .before .before .before .before .before .before .before .before .before .before .before .before .before .before .before .before .before .before .pre .1) .1)
+    (λ c. input-fits _ _ (c .before .before .before .before .before .before .before .before .before .before .before .before .before .before .before .before .start-keyed .ensures .bounded) (c .before .before .before .before .before .before .before .before .before .before .before .before .before .before .before .before .before .before .before .before .before .before .pre .1) .0)
+    (λ c. input-fits _ _ (c .before .before .before .before .before .before .before .before .before .before .before .before .before .before .before .before .start-keyed .ensures .bounded) (c .before .before .before .before .before .before .before .before .before .before .before .before .before .before .before .before .before .before .before .before .before .before .pre .1) .1)
     (λ c κs. tt)
     add-result-5
     (λ c. c .before .before .before .before .squeeze .kept .1 .1 .0)

@@ -21,7 +21,7 @@ returns c =
       blocks =
           padded-blocks lanes (first .last .0) (string .last .0) (c .absorb-zeros .last .0) x (string .result) (first .result) (first .ensures .0)
           (string .ensures .0) (string .ensures .2) (c .absorb-zeros .ensures);
-      few = omega (arith, string .ensures .1);
+      bounded = omega (arith, string .ensures .1);
     }
 
 pub absorb-key-spec : {M : Type 1} → statement M

@@ -31,7 +31,7 @@ returns c =
       blocks =
           padded-blocks lanes (first .last .0) (both .last .0) (c .absorb-zeros .last .0) (N ++ S) (both .result) (first .result) (first .ensures .0)
           n joined (c .absorb-zeros .ensures);
-      few = omega (arith, both .ensures .1, name .ensures .1);
+      bounded = omega (arith, both .ensures .1, name .ensures .1);
     }
 
 pub absorb-name-spec : {M : Type 1} → statement M

@@ -1,0 +1,39 @@
+// The row of a chute in two plans as C asks for it (docs/RULES.md, 'Chute plan'): an offset, a length and the number of the plan, since no reference can be
+// handed to C. The crate `hailfeather` gives the function its name in C; the other questions on plans need no conversion.
+ghost use mathlib.Core.Path.{_≡_};
+ghost use Rattle.plan_pair.specs.Pair.{locationOf};
+ghost use Rattle.c_plan.specs.Row.{sourceNumber, exportedLocation};
+use plan_pair::Source;
+
+#[repr(C)]
+pub struct CRow {
+    pub start: usize,
+    pub length: usize,
+    // 0 is neither plan, 1 the site plan, 2 the house plan.
+    pub source: u8,
+    pub number: u8,
+}
+
+fn source_number(source: Source) -> u8
+    ensures { λ r. ⌜ r ≡ sourceNumber source ⌝ }
+{
+    match source {
+        Source::Neither => 0,
+        Source::Site => 1,
+        Source::House => 2,
+    }
+}
+
+pub fn row(site: &[u8], house: &[u8], chute: u32) -> CRow
+    ensures { λ r. ⌜ r ≡ exportedLocation (locationOf (now (site .entry)) (now (house .entry)) chute) ⌝ }
+{
+    let location = plan_pair::row_location(site, house, chute);
+    let from = location.source;
+    let source = source_number(from);
+    CRow {
+        start: location.start,
+        length: location.length,
+        source,
+        number: location.refusal,
+    }
+}

@@ -1,0 +1,18 @@
+-- The entry's own answer to the imported session, exported.
+-- The entry's equation holds of every session, and so of the imported one.
+use mathlib.Core.Path.{ap, _∙_}
+use borrow.Author.Needs.{needs}
+use denote.Ref.{now}
+use Rattle.session.specs.declared.Session.{Session}
+use Rattle.session.specs.Session.{taking}
+use Rattle.c_session.specs.Session.{exportedAnswer}
+use Rattle.c_session.proofs.take.Statement.{statement}
+use Rattle.c_session.proofs.take.Tie as tie
+
+returns : tie.Need-returns
+returns c =
+    let a = c .before .before .before .before .args in
+    c .exported .ensures ∙ ap exportedAnswer (c .before .take .ensures ∙ ap (λ (s : Session). taking s (now (a .piece))) (c .before .before .imported .ensures))
+
+pub take-spec : {M : Type 1} → statement M
+take-spec = tie.close (tie.spec (λ c κs. search needs) (λ c κs. search needs) (λ c κs. search needs) returns)
