@@ -1,3 +1,4 @@
--- The refusal table's numbers; then what a call hands back by its number.
+-- The refusal table's numbers; what a call hands back by its number; and laws.
 pub mod Numbers
 pub mod Done
+pub mod Laws

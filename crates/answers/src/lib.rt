@@ -1,6 +1,9 @@
 // What an entry answers with: a number of the refusal table (docs/RULES.md, 'Numbers'), and for the calls that are counted the permutations they took.
 // The numbers are those of specs/Numbers.antt. A call gives the smallest that applies.
 
+ghost use mathlib.Core.Path.{_≡_};
+ghost use Rattle.answers.specs.Done.{firstOf, over};
+
 // Done: nothing was refused.
 pub const DONE: u8 = 0;
 
@@ -39,4 +42,24 @@ pub const NO_SUCH_CHUTE: u8 = 10;
 pub struct Outcome {
     pub runs: usize,
     pub number: u8,
+}
+
+// The first of two numbers, unless it is 0. A refusal table is a chain of these, in its order.
+pub fn first_of(number: u8, later: u8) -> u8
+    ensures { λ r. ⌜ r ≡ firstOf number later ⌝ }
+{
+    if number == DONE {
+        return later;
+    }
+    number
+}
+
+// The number for more bytes than the most that are allowed.
+pub fn over(bytes: usize, most: usize, number: u8) -> u8
+    ensures { λ r. ⌜ r ≡ over bytes most number ⌝ }
+{
+    if most < bytes {
+        return number;
+    }
+    DONE
 }

@@ -4,10 +4,10 @@ use mathlib.Core.Path.{_≡_}
 use mathlib.Core.Bool.{cond}
 use mathlib.Core.List.{List, [], _++_}
 use Prim.Native.Nat.{ℕ, _*_}
-use lib.Dec.{ltb, eqb}
+use lib.Dec.{eqb}
 use lib.ListN.{length}
 use Rattle.answers.specs.Numbers.{done, inputTooLong, badOutputLength}
-use Rattle.answers.specs.Done.{firstOf}
+use Rattle.answers.specs.Done.{firstOf, over}
 use Rattle.encode.specs.Encode.{encodeString, rightEncode, bytepad, KMAC}
 use Rattle.calls.specs.Limits.{maxMessage, maxOutput}
 use Rattle.calls.specs.Input.{Input, fedBytes}
@@ -41,13 +41,13 @@ outputBytes (kmacxof256 K X n S) = n
 
 -- 5 of the table, for a message of m bytes
 abbrev pub messageRefusal : ℕ → ℕ
-messageRefusal m = cond (ltb maxMessage m) inputTooLong done
+messageRefusal m = over m maxMessage inputTooLong
 
 -- 6 of the table, for an output of n bytes
 abbrev pub outputRefusal : Function → ℕ → ℕ
-outputRefusal cSHAKE256 n = cond (ltb maxOutput n) badOutputLength done
-outputRefusal KMAC256 n = cond (ltb maxOutput n) badOutputLength (cond (eqb n 0) badOutputLength done)
-outputRefusal KMACXOF256 n = cond (ltb maxOutput n) badOutputLength done
+outputRefusal cSHAKE256 n = over n maxOutput badOutputLength
+outputRefusal KMAC256 n = firstOf (over n maxOutput badOutputLength) (cond (eqb n 0) badOutputLength done)
+outputRefusal KMACXOF256 n = over n maxOutput badOutputLength
 
 -- the number that a call is answered with, the smallest that applies: the start's, then 5, then 6
 unfoldable pub refusal : {f : Function} → Call f → ℕ

@@ -2,9 +2,10 @@
 use mathlib.Core.Bool.{Bool, true, false, cond, _&&_}
 use mathlib.Core.List.{List, [], _∷_, _++_}
 use Prim.Native.Nat.{ℕ}
-use lib.Dec.{ltb, eqb}
+use lib.Dec.{eqb}
 use lib.ListN.{length}
 use Rattle.answers.specs.Numbers.{done, badKeyLength, stringTooLong, reservedName}
+use Rattle.answers.specs.Done.{firstOf, over}
 use Rattle.encode.specs.Encode.{encodeString, bytepad, KMAC}
 use Rattle.calls.specs.Limits.{maxKey, maxName, maxCustomisation}
 use Rattle.calls.specs.Input.{cshakePrefix, cshakeSuffix}
@@ -28,10 +29,9 @@ isReserved N = sameBytes N KMAC
 -- 2, 3 or 4 of the table (document 01, 'Numbers a caller gets back'), the smallest that applies; 0 for none
 unfoldable pub startRefusal : Start → ℕ
 startRefusal (named N S) =
-    cond (ltb maxName (length N)) stringTooLong
-    (cond (ltb maxCustomisation (length S)) stringTooLong (cond (isReserved N) reservedName done))
-startRefusal (keyed K S) =
-    cond (ltb maxKey (length K)) badKeyLength (cond (ltb maxCustomisation (length S)) stringTooLong done)
+    firstOf (over (length N) maxName stringTooLong)
+    (firstOf (over (length S) maxCustomisation stringTooLong) (cond (isReserved N) reservedName done))
+startRefusal (keyed K S) = firstOf (over (length K) maxKey badKeyLength) (over (length S) maxCustomisation stringTooLong)
 
 -- the bytes before the message, whole blocks
 unfoldable pub startPrefix : Start → List ℕ

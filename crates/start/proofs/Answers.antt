@@ -4,15 +4,16 @@ use mathlib.Core.Bool.{Bool, true, false}
 use mathlib.Core.List.{List, [], _∷_, _++_}
 use Prim.Native.Nat.{ℕ, zero, suc, _+_, _/_, _%_, _≤_}
 use native.Mathlib.Omega.{arith}
-use borrow.Author.Tests.{ne-eqb, eq-eqb, ltb-false}
-use lib.Dec.{ltb}
+use borrow.Author.Tests.{ne-eqb, eq-eqb}
 use lib.ListN.{length, replicate, length-append}
+use Rattle.answers.specs.Done.{over}
+use Rattle.answers.specs.Laws.{firstOf-passed, over-passed}
+use Rattle.calls.specs.Limits.{maxKey, maxName, maxCustomisation}
 use Rattle.encode.specs.Encode.{encodeString, bytepad, KMAC}
 use Rattle.encode.specs.Laws.Lengths.{bytepad-blocks}
 use Rattle.calls.specs.Input.{isShake, cshakePrefix, cshakeSuffix}
 use Rattle.calls.specs.Start.{Start, named, keyed, startRefusal, startPrefix, startSuffix}
 use Rattle.calls.specs.Laws.Input.{isShake-lengths}
-use Rattle.calls.specs.Laws.Refusal.{test-passed}
 use Rattle.sponge.specs.Running.{Running, running, fresh, absorbed}
 use Rattle.sponge.proofs.Absorbing.{absorbed-append}
 use Rattle.start.specs.declared.Started.{Started}
@@ -26,19 +27,18 @@ refused-starts s (suc k) r e some is =
     record { is = is ∙ ap (λ (n : ℕ). startAnswer n s) e; bounded = omega (arith, ap (λ (t : Started). t .blocks) is) }
 
 -- an accepted start keeps the limits
-pub named-lengths : (N S : List ℕ) → startRefusal (named N S) ≡ 0 → (length N ≤ 4096) × (length S ≤ 4096)
+pub named-lengths : (N S : List ℕ) → startRefusal (named N S) ≡ 0 → (length N ≤ maxName) × (length S ≤ maxCustomisation)
 unfolding startRefusal
 named-lengths N S e =
-    let n = test-passed (ltb 4096 (length N)) 2 _ e in
-    let s = test-passed (ltb 4096 (length S)) 2 _ (n .1) in
-    (ltb-false 4096 (length N) (n .0), ltb-false 4096 (length S) (s .0))
+    let n = firstOf-passed (over (length N) maxName 3) _ e in
+    let s = firstOf-passed (over (length S) maxCustomisation 3) _ (n .1) in
+    (over-passed (length N) maxName 2 (n .0), over-passed (length S) maxCustomisation 2 (s .0))
 
-pub keyed-lengths : (K S : List ℕ) → startRefusal (keyed K S) ≡ 0 → (length K ≤ 4096) × (length S ≤ 4096)
+pub keyed-lengths : (K S : List ℕ) → startRefusal (keyed K S) ≡ 0 → (length K ≤ maxKey) × (length S ≤ maxCustomisation)
 unfolding startRefusal
 keyed-lengths K S e =
-    let k = test-passed (ltb 4096 (length K)) 1 _ e in
-    let s = test-passed (ltb 4096 (length S)) 2 _ (k .1) in
-    (ltb-false 4096 (length K) (k .0), ltb-false 4096 (length S) (s .0))
+    let k = firstOf-passed (over (length K) maxKey 2) _ e in
+    (over-passed (length K) maxKey 1 (k .0), over-passed (length S) maxCustomisation 2 (k .1))
 
 accepted-starts : (s : Start) (r : Started) → startRefusal s ≡ 0 → r ≡ afterPrefix s → r .blocks ≤ 128 → Starts s r
 unfolding started

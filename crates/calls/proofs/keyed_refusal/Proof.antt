@@ -1,21 +1,13 @@
--- The tests are the table's, in its order: the first that holds gives its number in the code as in the definition.
--- Where none holds both give 0.
-use borrow.Author.Tests.{lt-ltb, le-ltb}
+-- The tests are the table's, chained in its order.
+-- Each call has its own equation, and their composition is the definition.
+use borrow.Author.Needs.{needs}
 use Rattle.calls.specs.Start.{startRefusal}
 use Rattle.calls.proofs.keyed_refusal.Statement.{statement}
 use Rattle.calls.proofs.keyed_refusal.Tie as tie
 
 returns : tie.Need-returns
 unfolding startRefusal
-returns c = simp (lt-ltb _ _ (c .if1 .taken))
-
-returns-2 : tie.Need-returns-2
-unfolding startRefusal
-returns-2 c = simp (le-ltb _ _ (c .before .if1 .left), lt-ltb _ _ (c .if2 .taken))
-
-returns-3 : tie.Need-returns-3
-unfolding startRefusal
-returns-3 c = simp (le-ltb _ _ (c .before .if1 .left), le-ltb _ _ (c .if2 .left))
+returns c = simp (c .first-of .ensures, c .before .over2 .ensures, c .before .before .over .ensures)
 
 pub keyed-refusal-spec : {M : Type 1} → statement M
-keyed-refusal-spec = tie.close (tie.spec returns returns-2 returns-3)
+keyed-refusal-spec = tie.close (tie.spec (λ c κs. search needs) (λ c κs. search needs) (λ c κs. search needs) returns)

@@ -12,10 +12,12 @@ use Rattle.encode.specs.Encode.{KMAC}
 use Rattle.encode.specs.Laws.Encode.{lastEncoded, lastEncoded-of}
 use Rattle.calls.specs.Limits.{maxName, maxCustomisation, maxOutput}
 use Rattle.calls.specs.Input.{Input, fedBytes}
+use Rattle.answers.specs.Done.{over}
+use Rattle.answers.specs.Laws.{test-passed, firstOf-passed}
 use Rattle.calls.specs.Start.{sameBytes, startRefusal}
 use Rattle.calls.specs.Call.{Function, cSHAKE256, KMAC256, KMACXOF256, Call, cshake256, kmac256, kmacxof256, Accepted, kmacInput, input, fed}
 use Rattle.calls.specs.Arguments.{Arguments, arguments}
-use Rattle.calls.specs.Laws.Refusal.{test-passed, start-accepted, output-accepted}
+use Rattle.calls.specs.Laws.Refusal.{start-accepted, output-accepted}
 use Rattle.calls.specs.Laws.Input.{fedBytes-fixes}
 use Rattle.calls.specs.Laws.Fed.{kmacMessage-fixes}
 
@@ -26,11 +28,11 @@ functionOf i = cond (sameBytes (i .name) KMAC) (cond (eqb (lastEncoded (i .messa
 functionOf-input : {f : Function} (c : Call f) → Accepted c → functionOf (input c) ≡ f
 unfolding functionOf startRefusal
 functionOf-input (cshake256 X n N S) h =
-    let named = test-passed (ltb maxName (length N)) 2 _ (start-accepted (cshake256 X n N S) h) in
-    let other = test-passed (sameBytes N KMAC) 3 _ (test-passed (ltb maxCustomisation (length S)) 2 _ (named .1) .1) in
+    let long = firstOf-passed (over (length N) maxName 3) _ (start-accepted (cshake256 X n N S) h) in
+    let other = test-passed (sameBytes N KMAC) 3 0 (firstOf-passed (over (length S) maxCustomisation 3) _ (long .1) .1) in
     rw (other .0)
 functionOf-input (kmac256 K X n S) h =
-    let some = test-passed (eqb n 0) 5 _ (test-passed (ltb maxOutput n) 5 _ (output-accepted (kmac256 K X n S) h) .1) in
+    let some = test-passed (eqb n 0) 5 0 (firstOf-passed (over n maxOutput 6) _ (output-accepted (kmac256 K X n S) h) .1) in
     rw (lastEncoded-of, ne-eqb (8 * n) 0 (λ z. eqb-false n 0 (some .0) (omega arith)))
 functionOf-input (kmacxof256 K X n S) h = rw lastEncoded-of
 

@@ -7,25 +7,12 @@ use native.Mathlib.Omega.{arith}
 use borrow.Author.Tests.{eqb-true, eq-eqb, lt-ltb, le-ltb, ltb-false}
 use lib.Dec.{ltb, eqb}
 use lib.ListN.{length}
-use Rattle.answers.specs.Done.{ifDone, firstOf}
+use Rattle.answers.specs.Done.{ifDone}
+use Rattle.answers.specs.Laws.{firstOf-passed, firstOf-refused, over-passed}
 use Rattle.calls.specs.Limits.{maxMessage}
 use Rattle.calls.specs.Start.{sameBytes, startRefusal}
 use Rattle.calls.specs.Call.{Function, Call, startOf, messageOf, outputBytes, messageRefusal, outputRefusal, refusal, Accepted}
 use Rattle.calls.specs.Count.{runs, reportedRuns}
-
--- a test whose number is not given does not hold
-pub test-passed : (t : Bool) (k later : ℕ) → cond t (suc k) later ≡ 0 → (t ≡ false) × (later ≡ 0)
-test-passed true k later e = absurd (omega arith)
-test-passed false k later e = (refl, e)
-
--- no number is given where neither is
-pub firstOf-passed : (k later : ℕ) → firstOf k later ≡ 0 → (k ≡ 0) × (later ≡ 0)
-firstOf-passed zero later e = (refl, e)
-firstOf-passed (suc k) later e = absurd (omega arith)
-
-firstOf-refused : (k later : ℕ) → (k ≡ 0 → ⊥) → firstOf k later ≡ k
-firstOf-refused zero later h = absurd (h refl)
-firstOf-refused (suc k) later h = refl
 
 -- A call's number, by what refuses it first, and its count
 
@@ -64,7 +51,7 @@ module _ {f : Function} (c : Call f) where
   unfolding refusal
   message-accepted h =
       let passed = firstOf-passed (messageRefusal (length (messageOf c))) _ (firstOf-passed (startRefusal (startOf c)) _ h .1) in
-      ltb-false maxMessage (length (messageOf c)) (test-passed (ltb maxMessage (length (messageOf c))) 4 0 (passed .0) .0)
+      over-passed (length (messageOf c)) maxMessage 4 (passed .0)
 
   pub output-accepted : Accepted c → outputRefusal f (outputBytes c) ≡ 0
   unfolding refusal

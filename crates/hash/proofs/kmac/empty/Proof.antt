@@ -1,0 +1,14 @@
+-- The output is empty or it is not: the definition asks the same.
+-- Each arm is the definition's arm for that case.
+use borrow.Author.Tests.{eq-eqb, ne-eqb}
+use Rattle.hash.proofs.kmac.empty.Statement.{statement}
+use Rattle.hash.proofs.kmac.empty.Tie as tie
+
+returns : tie.Need-returns
+returns c = rw (eq-eqb _ _ (c .if1 .taken))
+
+returns-2 : tie.Need-returns-2
+returns-2 c = rw (ne-eqb _ _ (c .if1 .left))
+
+pub empty-spec : {M : Type 1} → statement M
+empty-spec = tie.close (tie.spec returns returns-2)

@@ -1,0 +1,31 @@
+-- What `run` does, call by call: message and ending put in one after the other are put in joined.
+use mathlib.Core.Path.{_≡_, refl, sym, ap, _∙_}
+use mathlib.Core.List.{List, _++_}
+use Prim.Native.Nat.{ℕ, zero, suc, _%_, _<_}
+use native.Mathlib.Nat.{mod-eq-of-lt}
+use lib.ListN.{length}
+use Rattle.answers.specs.Done.{outcomeOf}
+use Rattle.sponge.specs.Running.{Running, running, absorbed, finished, squeezed}
+use Rattle.sponge.proofs.Absorbing.{absorbed-append}
+use Rattle.start.specs.declared.Started.{Started}
+use Rattle.one_shot.specs.Run.{runOutcome, runOutput}
+
+pub chained : (l a b d m e : List ℕ) (p q suffix n : ℕ) → running a p ≡ absorbed (running l 0) m → p < 136 → running b q ≡ absorbed (running a (p % 136)) e
+    → q < 136 → running d 0 ≡ finished suffix (running b (q % 136))
+    → squeezed n (running d 0) ≡ squeezed n (finished suffix (absorbed (running l 0) (m ++ e)))
+chained l a b d m e p q suffix n first hp second hq end =
+    ap (squeezed n)
+    (end
+    ∙ ap (λ (k : ℕ). finished suffix (running b k)) (mod-eq-of-lt hq)
+    ∙ ap (finished suffix)
+    (second
+    ∙ ap (λ (k : ℕ). absorbed (running a k) e) (mod-eq-of-lt hp)
+    ∙ ap (λ (u : Running). absorbed u e) first
+    ∙ sym (absorbed-append (running l 0) m e)))
+
+-- a refused call runs nothing and writes nothing
+pub refused-run : (k : ℕ) (s : Started) (m e before : List ℕ) (n : ℕ) → (k ≡ 0 → ⊥)
+    → (record { runs = 0; number = k } ≡ runOutcome k s m e n) × (before ≡ runOutput k s m e before)
+unfolding runOutcome runOutput
+refused-run zero s m e before n some = absurd (some refl)
+refused-run (suc k) s m e before n some = (refl, refl)

@@ -1,0 +1,40 @@
+// A call in one go, after its start: the message and its ending put in, the input ended and the output squeezed, unless the call is refused.
+ghost use mathlib.Core.Path.{_≡_};
+ghost use lib.ListN.{length};
+ghost use Rattle.one_shot.specs.Run.{runsFrom, runOutcome, runOutput};
+use answers::DONE;
+use answers::Outcome;
+use calls::output_runs;
+use sponge::absorb;
+use sponge::finish;
+use sponge::squeeze;
+use start::Started;
+use std::num::wrapping_add_usize;
+
+// The permutations of a start of so many blocks, of the message with its ending, and of the output. Within the limits nothing wraps.
+fn runs(start: usize, message: usize, ending: usize, out: usize) -> usize
+    ensures { λ r. ⌜ r ≡ runsFrom start message ending out ⌝ }
+{
+    let input = wrapping_add_usize(message, ending) / 136 + 1;
+    wrapping_add_usize(start, input + output_runs(out))
+}
+
+// The answer to a call that is given this number, and `out` filled where it is 0.
+pub fn run(number: u8, start: Started, message: &[u8], ending: &[u8], out: &mut [u8]) -> Outcome
+    ensures { λ r. ⌜ (r ≡ runOutcome number start (now (message .entry)) (now (ending .entry)) (length (now (out .entry))))
+        × (now (out .exit) ≡ runOutput number start (now (message .entry)) (now (ending .entry)) (now (out .entry))) ⌝ }
+{
+    if number != DONE {
+        return Outcome { runs: 0, number };
+    }
+    let taken = runs(start.blocks, message.len(), ending.len(), out.len());
+    let mut lanes = start.lanes;
+    let position = absorb(&mut lanes, 0, message);
+    let end = absorb(&mut lanes, position, ending);
+    finish(&mut lanes, end, start.suffix);
+    squeeze(&mut lanes, 0, out);
+    Outcome {
+        runs: taken,
+        number: DONE,
+    }
+}
