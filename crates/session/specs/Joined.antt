@@ -5,7 +5,7 @@ use mathlib.Core.Path.{_≡_}
 use mathlib.Core.List.{List, []}
 use Prim.Native.Nat.{ℕ, _≤_}
 use lib.ListN.{length, take}
-use Rattle.calls.specs.Start.{Start}
+use Rattle.calls.specs.Start.{Start, startRefusal}
 use Rattle.calls.specs.Call.{Accepted, fed, extendableCall}
 use Rattle.sponge.specs.Sponge.{sponge}
 use Rattle.session.specs.Session.{begun, taking}
@@ -30,3 +30,7 @@ pub record JoinedBytes (s : Start) (cs : List SessionCall) : Type 0 where
   -- and the bytes given are the first bytes of its answer, which a longer output begins with too
   pub joined : (d : ℕ) → length (joinedOutput s cs) ≤ d
       → joinedOutput s cs ≡ take (length (joinedOutput s cs)) (sponge (fed (extendableCall s (joinedPieces s cs) d)) d)
+
+-- for every start that is accepted, and any calls in any order
+abbrev pub JoinedBytesRule : Type 0
+JoinedBytesRule = (s : Start) → startRefusal s ≡ 0 → (cs : List SessionCall) → JoinedBytes s cs

@@ -6,6 +6,10 @@ ghost use lib.ListN.{length};
 ghost use Rattle.calls.specs.Start.{named, keyed};
 ghost use Rattle.sponge.specs.Running.{running, absorbed, finished};
 ghost use Rattle.session.specs.Session.{sessionAnswer, startedSession, begun, taking, inputEnd, givingSponge, giving, filled};
+use answers::BAD_OUTPUT_LENGTH;
+use answers::DONE;
+use answers::INPUT_TOO_LONG;
+use answers::WRONG_STATE;
 use calls::MAX_MESSAGE;
 use calls::MAX_OUTPUT;
 use sponge::absorb;
@@ -58,7 +62,7 @@ fn start_session(start: Started, kmac: bool) -> SessionAnswer
     ensures { λ r. ⌜ r ≡ startedSession start kmac ⌝ }
 {
     let number = start.number;
-    if number != 0 {
+    if number != DONE {
         return SessionAnswer {
             number,
             session: Session {
@@ -74,7 +78,7 @@ fn start_session(start: Started, kmac: bool) -> SessionAnswer
     }
     let lanes = start.lanes;
     SessionAnswer {
-        number: 0,
+        number: DONE,
         session: Session {
             lanes,
             phase: Phase::Taking(0),
@@ -107,19 +111,19 @@ pub fn take(s: Session, piece: &[u8]) -> SessionAnswer
 {
     let phase = s.phase;
     let Phase::Taking(at) = phase else {
-        return refuse(1, s);
+        return refuse(WRONG_STATE, s);
     };
     let taken = s.taken;
     if MAX_MESSAGE < taken {
-        return refuse(5, s);
+        return refuse(INPUT_TOO_LONG, s);
     }
     if MAX_MESSAGE - taken < piece.len() {
-        return refuse(5, s);
+        return refuse(INPUT_TOO_LONG, s);
     }
     let mut lanes = s.lanes;
     let position = absorb(&mut lanes, at, piece);
     SessionAnswer {
-        number: 0,
+        number: DONE,
         session: Session {
             lanes,
             phase: Phase::Taking(position),
@@ -170,16 +174,16 @@ pub fn give(s: Session, out: &mut [u8]) -> SessionAnswer
     let limit = s.limit;
     let n = out.len();
     if limit < given {
-        return refuse(6, s);
+        return refuse(BAD_OUTPUT_LENGTH, s);
     }
     if limit - given < n {
-        return refuse(6, s);
+        return refuse(BAD_OUTPUT_LENGTH, s);
     }
     let from = giving_sponge(s);
     let mut lanes = from.lanes;
     let position = squeeze(&mut lanes, from.position, out);
     SessionAnswer {
-        number: 0,
+        number: DONE,
         session: Session {
             lanes,
             phase: Phase::Giving(position),
