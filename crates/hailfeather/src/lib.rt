@@ -5,3 +5,4 @@ mod sessions; // sessions.rt: running sessions
 mod seals; // seals.rt: sealing and opening
 mod generators; // generators.rt: the generator
 mod plans; // plans.rt: the chute plan
+mod version; // version.rt: the version of header and archive

@@ -45,7 +45,7 @@ pub fn rows(plan: &[u8]) -> Result<u32, Refusal> {
 /// assert_eq!(destination(&plan, 4).unwrap_err().to_string(), "refused 10: the plan has no such chute");
 /// # Ok::<(), hailfeather::Refusal>(())
 /// ```
-pub fn destination(plan: &[u8], chute: u32) -> Result<u32, Refusal> {
+pub fn destination(plan: &[u8], chute: u64) -> Result<u32, Refusal> {
     // SAFETY: as in `rows`.
     let found = unsafe { ffi::hf_plan_destination(plan.as_ptr(), plan.len(), chute) };
     check("plan_destination", found.number).map(|()| found.destination)
@@ -85,7 +85,7 @@ pub struct Row<'a> {
 /// assert_eq!(row(&site, &house, 4).unwrap_err().to_string(), "refused 10: neither plan has such a chute");
 /// # Ok::<(), hailfeather::Refusal>(())
 /// ```
-pub fn row<'a>(site: &'a [u8], house: &'a [u8], chute: u32) -> Result<Row<'a>, Refusal> {
+pub fn row<'a>(site: &'a [u8], house: &'a [u8], chute: u64) -> Result<Row<'a>, Refusal> {
     // SAFETY: as in `rows`.
     let found = unsafe { ffi::hf_plan_row(site.as_ptr(), site.len(), house.as_ptr(), house.len(), chute) };
     check("plan_row", found.number)?;
@@ -149,7 +149,7 @@ pub fn to_vec(destinations: &[u32]) -> Result<Vec<u8>, Refusal> {
 #[derive(Clone, Debug)]
 pub struct Walk<'a> {
     plan: &'a [u8],
-    at: usize,
+    cursor: ffi::hf_cursor,
     left: usize,
 }
 
@@ -169,7 +169,7 @@ impl<'a> Walk<'a> {
         check("plan_start", cursor.number)?;
         Ok(Walk {
             plan,
-            at: cursor.at,
+            cursor,
             left: rows(plan)? as usize,
         })
     }
@@ -180,11 +180,11 @@ impl Iterator for Walk<'_> {
 
     fn next(&mut self) -> Option<u32> {
         // SAFETY: as in `rows`.
-        let step = unsafe { ffi::hf_plan_step(self.plan.as_ptr(), self.plan.len(), self.at, 0) };
+        let step = unsafe { ffi::hf_plan_step(self.plan.as_ptr(), self.plan.len(), self.cursor) };
         if step.number != 0 {
             return None; // 10, past the last row: the plan was read whole, and cannot change while it is lent
         }
-        self.at = step.next;
+        self.cursor.at = step.next;
         self.left -= 1;
         Some(step.destination)
     }
