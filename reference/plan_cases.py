@@ -1,5 +1,5 @@
 #!/usr/bin/env python3
-"""What the program plan_cases must write, worked out by the rules of document 01 alone.
+"""What the program plan_cases must write, worked out by the rules of docs/RULES.md alone.
 
 usage: python3 reference/plan_cases.py > crates/plan_cases/stdout
 """

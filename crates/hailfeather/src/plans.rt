@@ -43,7 +43,8 @@ pub extern "C" fn hf_plan_length(rows: &[u32]) -> PlanLength
 
 #[no_mangle]
 pub extern "C" fn hf_plan_write(rows: &[u32], out: &mut [u8]) -> u8
-    ensures { λ r. ⌜ (r ≡ writeRefusal (now (rows .entry)) (length (now (out .entry)))) × (now (out .exit) ≡ writtenOf (now (rows .entry)) (now (out .entry))) ⌝ }
+    ensures { λ r. ⌜ (r ≡ writeRefusal (now (rows .entry)) (length (now (out .entry))))
+        × (now (out .exit) ≡ writtenOf (now (rows .entry)) (now (out .entry))) ⌝ }
 {
     plan_write::write_plan(rows, out)
 }

@@ -1,4 +1,4 @@
-// NIST's published samples of cSHAKE256, KMAC256 and KMACXOF256, SHAKE256 of the empty message, and document 01's table of counts. The expected output
+// NIST's published samples of cSHAKE256, KMAC256 and KMACXOF256, SHAKE256 of the empty message, and docs/RULES.md's table of counts. The expected output
 // is that of reference/hash_samples.py, which takes the samples from vectors/nist-samples.txt.
 use answers::Outcome;
 use testing::first;

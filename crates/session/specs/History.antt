@@ -49,7 +49,7 @@ unfoldable pub output : Session → List SessionCall → List ℕ
 output s [] = []
 output s (c ∷ cs) = ifDone (called s c .number) (givenBy s c) [] ++ output (called s c .session) cs
 
--- The table's numbers (document 01, 'Numbers a caller gets back') for calls in a row, by what was accepted before: whether the session is giving, for which
+-- The table's numbers (docs/RULES.md, 'Numbers') for calls in a row, by what was accepted before: whether the session is giving, for which
 -- an ask for no bytes is enough, and the totals taken and given.
 unfoldable pub tableNumbers : Bool → ℕ → ℕ → List SessionCall → List ℕ
 tableNumbers isGiving t g [] = []

@@ -1,4 +1,4 @@
--- The joined-bytes rule (document 01, 'Running sessions'): 'for any order of calls from an accepted start, the bytes given, joined, are the first bytes of
+-- The joined-bytes rule (docs/RULES.md, 'Sessions'): 'for any order of calls from an accepted start, the bytes given, joined, are the first bytes of
 -- the one-shot answer over the accepted pieces, joined'. It is proved in proofs/Joined.antt.
 use mathlib.Core.Bool.{false}
 use mathlib.Core.Path.{_≡_}

@@ -1,5 +1,5 @@
--- Running sessions (document 01, 'Running sessions'): what each call hands back, as a function of the session's value.
--- Of a session that a caller made up by hand document 01 leaves the result free. Here it is fixed all the same: a position at which the block is full, or
+-- Running sessions (docs/RULES.md, 'Sessions'): what each call hands back, as a function of the session's value.
+-- Of a session that a caller made up by hand docs/RULES.md leaves the result free. Here it is fixed all the same: a position at which the block is full, or
 -- beyond, is taken modulo 136 by a taking session and followed by the next block in a giving one; totals and limit are compared as they stand.
 use mathlib.Core.Bool.{Bool, true, false, cond}
 use mathlib.Core.List.{List, []}

@@ -1,4 +1,4 @@
--- A session that could not start (document 01, 'Numbers a caller gets back'): giving, with nothing to give. It is proved in proofs/Unstarted.antt.
+-- A session that could not start (docs/RULES.md, 'Numbers'): giving, with nothing to give. It is proved in proofs/Unstarted.antt.
 use mathlib.Core.Path.{_≡_}
 use mathlib.Core.List.{List}
 use Prim.Native.Nat.{ℕ, _<_}

@@ -1,4 +1,4 @@
-// Running sessions over cSHAKE256 and KMACXOF256 (document 01, 'Running sessions'): the message taken in pieces, then the output given in portions.
+// Running sessions over cSHAKE256 and KMACXOF256 (docs/RULES.md, 'Sessions'): the message taken in pieces, then the output given in portions.
 // A session is passed by value and handed back with the number of the table; a refusal hands back the same session and writes nothing.
 ghost use mathlib.Core.Path.{_≡_};
 ghost use Prim.Native.Nat.{_%_};

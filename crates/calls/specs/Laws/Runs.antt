@@ -28,7 +28,9 @@ startBlocks (keyed K S) = cshakeBlocks 4 (length S) + blocks (stringLength (leng
 length-cshakePrefix : (N S : List ℕ) → length (cshakePrefix N S) ≡ cshakeBlocks (length N) (length S) * 136
 length-cshakePrefix N S = rw isShake-lengths (go (eqb (length N + length S) 0))
   where
-    go : (t : Bool) → length (cond t [] (bytepad (encodeString N ++ encodeString S) 136)) ≡ cond t 0 (blocks (stringLength (length N) + stringLength (length S) + 2)) * 136
+    go : (t : Bool)
+        → length (cond t [] (bytepad (encodeString N ++ encodeString S) 136))
+        ≡ cond t 0 (blocks (stringLength (length N) + stringLength (length S) + 2)) * 136
     go true = refl
     go false = simp (length-bytepad, length-append, length-encodeString)
 
@@ -50,7 +52,8 @@ length-ending cSHAKE256 n = refl
 length-ending KMAC256 n = length-rightEncode (8 * n)
 length-ending KMACXOF256 n = length-rightEncode 0
 
-pub runs-by-lengths : {f : Function} (c : Call f) → runs c ≡ startBlocks (startOf c) + (length (messageOf c) + endingLength f (outputBytes c)) / 136 + 1 + outputRuns (outputBytes c)
+pub runs-by-lengths : {f : Function} (c : Call f)
+    → runs c ≡ startBlocks (startOf c) + (length (messageOf c) + endingLength f (outputBytes c)) / 136 + 1 + outputRuns (outputBytes c)
 unfolding runs
 runs-by-lengths {f} c =
     rw (fed-parts c, length-padded)
