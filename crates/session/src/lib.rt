@@ -10,6 +10,7 @@ use answers::BAD_OUTPUT_LENGTH;
 use answers::DONE;
 use answers::INPUT_TOO_LONG;
 use answers::WRONG_STATE;
+use answers::over_total;
 use calls::MAX_MESSAGE;
 use calls::MAX_OUTPUT;
 use sponge::absorb;
@@ -114,11 +115,9 @@ pub fn take(s: Session, piece: &[u8]) -> SessionAnswer
         return refuse(WRONG_STATE, s);
     };
     let taken = s.taken;
-    if MAX_MESSAGE < taken {
-        return refuse(INPUT_TOO_LONG, s);
-    }
-    if MAX_MESSAGE - taken < piece.len() {
-        return refuse(INPUT_TOO_LONG, s);
+    let number = over_total(taken, piece.len(), MAX_MESSAGE, INPUT_TOO_LONG);
+    if number != DONE {
+        return refuse(number, s);
     }
     let mut lanes = s.lanes;
     let position = absorb(&mut lanes, at, piece);
@@ -173,11 +172,9 @@ pub fn give(s: Session, out: &mut [u8]) -> SessionAnswer
     let given = s.given;
     let limit = s.limit;
     let n = out.len();
-    if limit < given {
-        return refuse(BAD_OUTPUT_LENGTH, s);
-    }
-    if limit - given < n {
-        return refuse(BAD_OUTPUT_LENGTH, s);
+    let number = over_total(given, n, limit, BAD_OUTPUT_LENGTH);
+    if number != DONE {
+        return refuse(number, s);
     }
     let from = giving_sponge(s);
     let mut lanes = from.lanes;
