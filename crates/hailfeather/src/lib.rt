@@ -6,7 +6,7 @@ mod plans; // plans.rt: the chute plan
 
 ghost use mathlib.Core.Path.{_≡_};
 ghost use lib.ListN.{length};
-ghost use Rattle.keccak.specs.Fips202.{keccakP};
+ghost use Rattle.fips202.specs.Fips202.{keccakP};
 ghost use Rattle.calls.specs.Call.{cshake256, kmac256, kmacxof256};
 ghost use Rattle.hash.specs.Outcome.{outcome, written};
 ghost use Rattle.seal.specs.Answers.{sealed, sealedText, sealedTag, opened, openedText};
