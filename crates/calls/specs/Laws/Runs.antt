@@ -8,7 +8,8 @@ use lib.Dec.{eqb}
 use lib.ListN.{length, length-append}
 use Rattle.encode.specs.Digits.{width, widthIn}
 use Rattle.encode.specs.Encode.{encodeString, rightEncode, bytepad, KMAC}
-use Rattle.encode.specs.Laws.Lengths.{blocks, stringLength, length-encodeString, length-rightEncode, length-bytepad, length-padded}
+use Rattle.encode.specs.Padding.{blocks}
+use Rattle.encode.specs.Laws.Lengths.{stringLength, length-encodeString, length-rightEncode, length-bytepad, length-padded}
 use Rattle.calls.specs.Input.{cshakePrefix}
 use Rattle.calls.specs.Start.{Start, named, keyed, startPrefix}
 use Rattle.calls.specs.Call.{Function, cSHAKE256, KMAC256, KMACXOF256, Call, startOf, messageOf, outputBytes, ending}
