@@ -1,7 +1,7 @@
 // Each bit of key, IV, ciphertext, label and tag flipped in turn. The five stand one after the other in one buffer: 32, 12, 20, 7 and 16 bytes.
 ghost use Prim.Native.Nat.{_+_, _*_, _≤_, _<_};
 ghost use lib.ListN.{length};
-use hash::Outcome;
+use answers::Outcome;
 use testing::first;
 use testing::print;
 use testing::print_number;
