@@ -4,7 +4,7 @@ use mathlib.Core.Bool.{Bool, true, false}
 use Rattle.session.specs.declared.Phase.{Phase}
 use Rattle.session.specs.declared.Phase.the-variants.{Taking, Giving}
 use Rattle.session.specs.declared.Session.{Session}
-use Rattle.generator.specs.declared.Generator.{Generator}
+use Rattle.drng.specs.declared.Generator.{Generator}
 use Rattle.hailfeather.specs.Flag.{flag, isSet}
 use Rattle.hailfeather.specs.Session.{phaseNumber, phasePosition, importedPhase, exportedSession, importedSession}
 use Rattle.hailfeather.specs.Generator.{exportedGenerator, importedGenerator}

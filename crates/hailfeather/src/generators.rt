@@ -1,12 +1,13 @@
 // The cSHAKE generator as C calls it (document 01, 'The generator'): its state is a plain struct, passed by value and handed back.
 ghost use mathlib.Core.Path.{_≡_};
 ghost use lib.ListN.{length};
-ghost use Rattle.generator.specs.Seed.{freshGenerator, seedAnswer};
-ghost use Rattle.generator.specs.Draw.{drawAnswer, drawOutput};
+ghost use Rattle.drng.specs.State.{freshGenerator};
+ghost use Rattle.drng.specs.Drng.{seedAnswer, drawAnswer, drawOutput};
+ghost use Rattle.generator.specs.Cshake.{cshakeDrng};
 ghost use Rattle.hailfeather.specs.Generator.{importedGenerator, exportedGenerator, exportedAnswer};
 use crate::flag;
-use generator::Answer;
-use generator::Generator;
+use drng::Generator;
+use drng::GeneratorAnswer;
 
 #[repr(C)]
 pub struct HfGenerator {
@@ -38,7 +39,7 @@ fn exported(g: Generator) -> HfGenerator
     HfGenerator { key, seeded }
 }
 
-fn exported_answer(answer: Answer) -> HfDraw
+fn exported_answer(answer: GeneratorAnswer) -> HfDraw
     ensures { λ r. ⌜ r ≡ exportedAnswer answer ⌝ }
 {
     let generator = exported(answer.generator);
@@ -53,7 +54,7 @@ fn exported_answer(answer: Answer) -> HfDraw
 pub extern "C" fn hf_generator_fresh() -> HfGenerator
     ensures { λ r. ⌜ r ≡ exportedGenerator freshGenerator ⌝ }
 {
-    exported(generator::fresh())
+    exported(drng::fresh())
 }
 
 #[no_mangle]
@@ -62,7 +63,7 @@ pub extern "C" fn hf_generator_seed(
     seed: &[u8],
     personalisation: &[u8],
 ) -> HfDraw
-    ensures { λ r. ⌜ r ≡ exportedAnswer (seedAnswer (importedGenerator generator) (now (seed .entry)) (now (personalisation .entry))) ⌝ }
+    ensures { λ r. ⌜ r ≡ exportedAnswer (seedAnswer cshakeDrng (importedGenerator generator) (now (seed .entry)) (now (personalisation .entry))) ⌝ }
 {
     exported_answer(generator::seed(imported(generator), seed, personalisation))
 }
@@ -73,8 +74,8 @@ pub extern "C" fn hf_generator_draw(
     additional: &[u8],
     out: &mut [u8],
 ) -> HfDraw
-    ensures { λ r. ⌜ (r ≡ exportedAnswer (drawAnswer (importedGenerator generator) (now (additional .entry)) (length (now (out .entry)))))
-        × (now (out .exit) ≡ drawOutput (importedGenerator generator) (now (additional .entry)) (now (out .entry))) ⌝ }
+    ensures { λ r. ⌜ (r ≡ exportedAnswer (drawAnswer cshakeDrng (importedGenerator generator) (now (additional .entry)) (length (now (out .entry)))))
+        × (now (out .exit) ≡ drawOutput cshakeDrng (importedGenerator generator) (now (additional .entry)) (now (out .entry))) ⌝ }
 {
     exported_answer(generator::draw(imported(generator), additional, out))
 }

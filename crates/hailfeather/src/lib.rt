@@ -9,8 +9,10 @@ ghost use lib.ListN.{length};
 ghost use Rattle.keccak.specs.Fips202.{keccakP};
 ghost use Rattle.calls.specs.Call.{cshake256, kmac256, kmacxof256};
 ghost use Rattle.hash.specs.Outcome.{outcome, written};
-ghost use Rattle.seal.specs.Answers.{sealed, sealedText, sealedTag, opened, openedText};
-ghost use Rattle.hailfeather.specs.Exported.{exported};
+ghost use Rattle.aead.specs.Aead.{sealArguments};
+ghost use Rattle.aead.specs.Answers.{sealed, sealedText, sealedTag, opened, openedText};
+ghost use Rattle.seal.specs.Kmac.{kmacAead};
+ghost use Rattle.hailfeather.specs.Exported.{exported, exportedSeal};
 
 // The number that a call is answered with, and the permutations it took.
 #[repr(C)]
@@ -87,9 +89,12 @@ pub extern "C" fn hf_seal(
     out: &mut [u8],
     tag: &mut [u8],
 ) -> HfOutcome
-    ensures { λ r. ⌜ (r ≡ exported (sealed (record { key = now (key .entry); iv = now (iv .entry); text = now (text .entry); label = now (label .entry) }) (length (now (out .entry))) (length (now (tag .entry)))))
-        × (now (out .exit) ≡ sealedText (record { key = now (key .entry); iv = now (iv .entry); text = now (text .entry); label = now (label .entry) }) (now (out .entry)) (length (now (tag .entry))))
-        × (now (tag .exit) ≡ sealedTag (record { key = now (key .entry); iv = now (iv .entry); text = now (text .entry); label = now (label .entry) }) (length (now (out .entry))) (now (tag .entry))) ⌝ }
+    ensures { λ r. ⌜ (r ≡ exportedSeal (sealed kmacAead (sealArguments (now (key .entry)) (now (iv .entry)) (now (text .entry)) (now (label .entry)))
+        (length (now (out .entry))) (length (now (tag .entry)))))
+        × (now (out .exit) ≡ sealedText kmacAead (sealArguments (now (key .entry)) (now (iv .entry)) (now (text .entry)) (now (label .entry)))
+        (now (out .entry)) (length (now (tag .entry))))
+        × (now (tag .exit) ≡ sealedTag kmacAead (sealArguments (now (key .entry)) (now (iv .entry)) (now (text .entry)) (now (label .entry)))
+        (length (now (out .entry))) (now (tag .entry))) ⌝ }
 {
     let outcome = seal::seal(key, iv, text, label, out, tag);
     HfOutcome {
@@ -107,8 +112,10 @@ pub extern "C" fn hf_open(
     out: &mut [u8],
     tag: &[u8],
 ) -> HfOutcome
-    ensures { λ r. ⌜ (r ≡ exported (opened (record { key = now (key .entry); iv = now (iv .entry); text = now (ciphertext .entry); label = now (label .entry) }) (length (now (out .entry))) (now (tag .entry))))
-        × (now (out .exit) ≡ openedText (record { key = now (key .entry); iv = now (iv .entry); text = now (ciphertext .entry); label = now (label .entry) }) (now (out .entry)) (now (tag .entry))) ⌝ }
+    ensures { λ r. ⌜ (r ≡ exportedSeal (opened kmacAead (sealArguments (now (key .entry)) (now (iv .entry)) (now (ciphertext .entry)) (now (label .entry)))
+        (length (now (out .entry))) (now (tag .entry))))
+        × (now (out .exit) ≡ openedText kmacAead (sealArguments (now (key .entry)) (now (iv .entry)) (now (ciphertext .entry)) (now (label .entry)))
+        (now (out .entry)) (now (tag .entry))) ⌝ }
 {
     let outcome = seal::open(key, iv, ciphertext, label, out, tag);
     HfOutcome {

@@ -3,8 +3,9 @@
 use mathlib.Core.Path.{ap, _∙_}
 use denote.Ref.{now}
 use borrow.Author.Needs.{needs}
-use Rattle.generator.specs.declared.Generator.{Generator}
-use Rattle.generator.specs.Seed.{seedAnswer}
+use Rattle.drng.specs.declared.Generator.{Generator}
+use Rattle.drng.specs.Drng.{seedAnswer}
+use Rattle.generator.specs.Cshake.{cshakeDrng}
 use Rattle.hailfeather.specs.Generator.{exportedAnswer}
 use Rattle.hailfeather.proofs.generators.hf_generator_seed.Statement.{statement}
 use Rattle.hailfeather.proofs.generators.hf_generator_seed.Tie as tie
@@ -12,7 +13,7 @@ use Rattle.hailfeather.proofs.generators.hf_generator_seed.Tie as tie
 returns : tie.Need-returns
 returns c =
     let a = c .before .before .before .before .before .args in
-    c .exported-answer .ensures ∙ ap exportedAnswer (c .before .seed .ensures ∙ ap (λ (g : Generator). seedAnswer g (now (a .seed)) (now (a .personalisation))) (c .before .before .imported .ensures))
+    c .exported-answer .ensures ∙ ap exportedAnswer (c .before .seed .ensures ∙ ap (λ (g : Generator). seedAnswer cshakeDrng g (now (a .seed)) (now (a .personalisation))) (c .before .before .imported .ensures))
 
 pub hf-generator-seed-spec : {M : Type 1} → statement M
 hf-generator-seed-spec = tie.close (tie.spec (λ c κs. search needs) (λ c κs. search needs) (λ c κs. search needs) returns)
