@@ -1,6 +1,6 @@
 -- What C was handed, lent again, is the generator that the crate `generator` handed back. It is proved in proofs/Back.antt.
 use mathlib.Core.Path.{_≡_}
-use Rattle.generator.specs.declared.Generator.{Generator}
+use Rattle.drng.specs.declared.Generator.{Generator}
 use Rattle.c_generator.specs.Generator.{exportedGenerator, importedGenerator}
 
 abbrev pub ThereAndBack : Type 0

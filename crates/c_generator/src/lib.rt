@@ -2,11 +2,12 @@
 // these functions their names in C.
 ghost use mathlib.Core.Path.{_≡_};
 ghost use lib.ListN.{length};
-ghost use Rattle.generator.specs.Seed.{freshGenerator, seedAnswer};
-ghost use Rattle.generator.specs.Draw.{drawAnswer, drawOutput};
+ghost use Rattle.drng.specs.State.{freshGenerator};
+ghost use Rattle.drng.specs.Drng.{seedAnswer, drawAnswer, drawOutput};
+ghost use Rattle.generator.specs.Cshake.{cshakeDrng};
 ghost use Rattle.c_generator.specs.Generator.{importedGenerator, exportedGenerator, exportedAnswer};
-use generator::Answer;
-use generator::Generator;
+use drng::Generator;
+use drng::GeneratorAnswer;
 
 #[repr(C)]
 pub struct CGenerator {
@@ -38,7 +39,7 @@ fn exported(g: Generator) -> CGenerator
     CGenerator { key, seeded }
 }
 
-fn exported_answer(answer: Answer) -> CGeneratorAnswer
+fn exported_answer(answer: GeneratorAnswer) -> CGeneratorAnswer
     ensures { λ r. ⌜ r ≡ exportedAnswer answer ⌝ }
 {
     let generator = exported(answer.generator);
@@ -52,18 +53,18 @@ fn exported_answer(answer: Answer) -> CGeneratorAnswer
 pub fn fresh() -> CGenerator
     ensures { λ r. ⌜ r ≡ exportedGenerator freshGenerator ⌝ }
 {
-    exported(generator::fresh())
+    exported(drng::fresh())
 }
 
 pub fn seed(generator: CGenerator, seed: &[u8], personalisation: &[u8]) -> CGeneratorAnswer
-    ensures { λ r. ⌜ r ≡ exportedAnswer (seedAnswer (importedGenerator generator) (now (seed .entry)) (now (personalisation .entry))) ⌝ }
+    ensures { λ r. ⌜ r ≡ exportedAnswer (seedAnswer cshakeDrng (importedGenerator generator) (now (seed .entry)) (now (personalisation .entry))) ⌝ }
 {
     exported_answer(generator::seed(imported(generator), seed, personalisation))
 }
 
 pub fn draw(generator: CGenerator, additional: &[u8], out: &mut [u8]) -> CGeneratorAnswer
-    ensures { λ r. ⌜ (r ≡ exportedAnswer (drawAnswer (importedGenerator generator) (now (additional .entry)) (length (now (out .entry)))))
-        × (now (out .exit) ≡ drawOutput (importedGenerator generator) (now (additional .entry)) (now (out .entry))) ⌝ }
+    ensures { λ r. ⌜ (r ≡ exportedAnswer (drawAnswer cshakeDrng (importedGenerator generator) (now (additional .entry)) (length (now (out .entry)))))
+        × (now (out .exit) ≡ drawOutput cshakeDrng (importedGenerator generator) (now (additional .entry)) (now (out .entry))) ⌝ }
 {
     exported_answer(generator::draw(imported(generator), additional, out))
 }

@@ -1,4 +1,4 @@
--- The state and its seeding; then draws, and facts by computation.
-pub mod Seed
-pub mod Draw
+-- The generator; then facts by computation.
+pub mod Cshake
 pub mod Facts
+pub mod Private

@@ -1,16 +1,16 @@
-// Runs the cSHAKE generator over document 01's counts and limits and over a long draw, and prints number, count, state and output of each step. The expected
+// Runs the cSHAKE generator over the counts and limits of docs/RULES.md and over a long draw, and prints number, count, state and output of each step. The expected
 // output is that of reference/generator_cases.py.
 ghost use mathlib.Core.Path.{_≡_};
 ghost use Prim.Native.Nat.{_≤_};
 ghost use lib.ListN.{length};
-use generator::Answer;
-use generator::Generator;
+use drng::Generator;
+use drng::GeneratorAnswer;
 use testing::print;
 use testing::print_bytes;
 use testing::print_number;
 
 // A heading with the number and the count, and a line with the state.
-fn print_answer(title: &[u8], answer: Answer) {
+fn print_answer(title: &[u8], answer: GeneratorAnswer) {
     print(title);
     print(b": number ");
     print_number(answer.number as u64);
@@ -57,7 +57,7 @@ fn draw_case(title: &[u8], state: Generator, additional: &[u8], bytes: usize) ->
 
 // Draws before the first seeding.
 fn never_seeded() -> Generator {
-    let a = draw_case(b"never seeded, 0 bytes", generator::fresh(), b"", 0);
+    let a = draw_case(b"never seeded, 0 bytes", drng::fresh(), b"", 0);
     draw_case(b"never seeded, 10 bytes", a, b"", 10)
 }
 

@@ -1,8 +1,9 @@
 // The cSHAKE generator: its state is a plain struct, passed by value and handed back.
 ghost use mathlib.Core.Path.{_≡_};
 ghost use lib.ListN.{length};
-ghost use Rattle.generator.specs.Seed.{freshGenerator, seedAnswer};
-ghost use Rattle.generator.specs.Draw.{drawAnswer, drawOutput};
+ghost use Rattle.drng.specs.State.{freshGenerator};
+ghost use Rattle.drng.specs.Drng.{seedAnswer, drawAnswer, drawOutput};
+ghost use Rattle.generator.specs.Cshake.{cshakeDrng};
 ghost use Rattle.c_generator.specs.Generator.{importedGenerator, exportedGenerator, exportedAnswer};
 use c_generator::CGenerator;
 use c_generator::CGeneratorAnswer;
@@ -20,7 +21,7 @@ pub extern "C" fn hf_generator_seed(
     seed: &[u8],
     personalisation: &[u8],
 ) -> CGeneratorAnswer
-    ensures { λ r. ⌜ r ≡ exportedAnswer (seedAnswer (importedGenerator generator) (now (seed .entry)) (now (personalisation .entry))) ⌝ }
+    ensures { λ r. ⌜ r ≡ exportedAnswer (seedAnswer cshakeDrng (importedGenerator generator) (now (seed .entry)) (now (personalisation .entry))) ⌝ }
 {
     c_generator::seed(generator, seed, personalisation)
 }
@@ -31,8 +32,8 @@ pub extern "C" fn hf_generator_draw(
     additional: &[u8],
     out: &mut [u8],
 ) -> CGeneratorAnswer
-    ensures { λ r. ⌜ (r ≡ exportedAnswer (drawAnswer (importedGenerator generator) (now (additional .entry)) (length (now (out .entry)))))
-        × (now (out .exit) ≡ drawOutput (importedGenerator generator) (now (additional .entry)) (now (out .entry))) ⌝ }
+    ensures { λ r. ⌜ (r ≡ exportedAnswer (drawAnswer cshakeDrng (importedGenerator generator) (now (additional .entry)) (length (now (out .entry)))))
+        × (now (out .exit) ≡ drawOutput cshakeDrng (importedGenerator generator) (now (additional .entry)) (now (out .entry))) ⌝ }
 {
     c_generator::draw(generator, additional, out)
 }

@@ -1,7 +1,9 @@
 // Sealing and opening.
 ghost use mathlib.Core.Path.{_≡_};
 ghost use lib.ListN.{length};
-ghost use Rattle.seal.specs.Answers.{sealed, sealedText, sealedTag, opened, openedText};
+ghost use Rattle.aead.specs.Aead.{sealArguments};
+ghost use Rattle.aead.specs.Answers.{sealed, sealedText, sealedTag, opened, openedText};
+ghost use Rattle.seal.specs.Kmac.{kmacAead};
 use answers::Outcome;
 
 #[no_mangle]
@@ -13,12 +15,12 @@ pub extern "C" fn hf_seal(
     out: &mut [u8],
     tag: &mut [u8],
 ) -> Outcome
-    ensures { λ r. ⌜ (r
-        ≡ sealed (record { key = now (key .entry); iv = now (iv .entry); text = now (text .entry); label = now (label .entry) }) (length (now (out .entry))) (length (now (tag .entry))))
-        × (now (out .exit)
-        ≡ sealedText (record { key = now (key .entry); iv = now (iv .entry); text = now (text .entry); label = now (label .entry) }) (now (out .entry)) (length (now (tag .entry))))
-        × (now (tag .exit)
-        ≡ sealedTag (record { key = now (key .entry); iv = now (iv .entry); text = now (text .entry); label = now (label .entry) }) (length (now (out .entry))) (now (tag .entry))) ⌝ }
+    ensures { λ r. ⌜ (r ≡ sealed kmacAead (sealArguments (now (key .entry)) (now (iv .entry)) (now (text .entry)) (now (label .entry)))
+        (length (now (out .entry))) (length (now (tag .entry))))
+        × (now (out .exit) ≡ sealedText kmacAead (sealArguments (now (key .entry)) (now (iv .entry)) (now (text .entry)) (now (label .entry)))
+        (now (out .entry)) (length (now (tag .entry))))
+        × (now (tag .exit) ≡ sealedTag kmacAead (sealArguments (now (key .entry)) (now (iv .entry)) (now (text .entry)) (now (label .entry)))
+        (length (now (out .entry))) (now (tag .entry))) ⌝ }
 {
     seal::seal(key, iv, text, label, out, tag)
 }
@@ -32,10 +34,10 @@ pub extern "C" fn hf_open(
     out: &mut [u8],
     tag: &[u8],
 ) -> Outcome
-    ensures { λ r. ⌜ (r
-        ≡ opened (record { key = now (key .entry); iv = now (iv .entry); text = now (ciphertext .entry); label = now (label .entry) }) (length (now (out .entry))) (now (tag .entry)))
-        × (now (out .exit)
-        ≡ openedText (record { key = now (key .entry); iv = now (iv .entry); text = now (ciphertext .entry); label = now (label .entry) }) (now (out .entry)) (now (tag .entry))) ⌝ }
+    ensures { λ r. ⌜ (r ≡ opened kmacAead (sealArguments (now (key .entry)) (now (iv .entry)) (now (ciphertext .entry)) (now (label .entry)))
+        (length (now (out .entry))) (now (tag .entry)))
+        × (now (out .exit) ≡ openedText kmacAead (sealArguments (now (key .entry)) (now (iv .entry)) (now (ciphertext .entry)) (now (label .entry)))
+        (now (out .entry)) (now (tag .entry))) ⌝ }
 {
     seal::open(key, iv, ciphertext, label, out, tag)
 }

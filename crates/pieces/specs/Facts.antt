@@ -1,15 +1,15 @@
--- The edges of a piece, by computation: what document 01, 'Both sides of the line', counts draws by, and the key that a draw of 0 bytes leaves.
+-- The edges of a piece, by computation: what docs/RULES.md, 'Facts', counts draws by, and the key that a draw of 0 bytes leaves.
 use mathlib.Core.Path.{_≡_, refl}
 use mathlib.Core.List.{List, [], _++_}
 use Prim.Native.Nat.{ℕ}
 use lib.ListN.{take}
-use Rattle.pieces.specs.Pieces.{Generated, pieces, cut, keyAfter, streamOf, drawn}
+use Rattle.pieces.specs.Pieces.{Generated, pieceCount, cut, keyAfter, streamOf, drawn}
 
 pub record PieceFacts (generate : List ℕ → Generated) (key : List ℕ) : Type 0 where
-  pub pieces0 : pieces 0 ≡ 0
-  pub pieces1 : pieces 1 ≡ 1
-  pub pieces208 : pieces 208 ≡ 1
-  pub pieces209 : pieces 209 ≡ 2
+  pub count0 : pieceCount 0 ≡ 0
+  pub count1 : pieceCount 1 ≡ 1
+  pub count208 : pieceCount 208 ≡ 1
+  pub count209 : pieceCount 209 ≡ 2
   pub cut207 : cut 207 ≡ 207
   pub cut209 : cut 209 ≡ 208
   -- no byte: no piece
@@ -21,13 +21,13 @@ pub record PieceFacts (generate : List ℕ → Generated) (key : List ℕ) : Typ
       ≡ record { key = generate (generate key .key) .key; stream = take 209 (generate key .stream ++ (generate (generate key .key) .stream ++ [])) }
 
 pub pieceFacts : (generate : List ℕ → Generated) (key : List ℕ) → PieceFacts generate key
-unfolding pieces cut keyAfter streamOf drawn
+unfolding pieceCount cut keyAfter streamOf drawn
 pieceFacts generate key =
     record {
-      pieces0 = refl;
-      pieces1 = refl;
-      pieces208 = refl;
-      pieces209 = refl;
+      count0 = refl;
+      count1 = refl;
+      count208 = refl;
+      count209 = refl;
       cut207 = refl;
       cut209 = refl;
       none = refl;

@@ -8,63 +8,63 @@ use native.Mathlib.Omega.{arith}
 use borrow.Author.Tests.{lt-ltb, le-ltb}
 use lib.ListN.{length, take, length-append}
 use lib.Seq.{take-append-le, take-append-add, take-all, take-at, length-take-le}
-use Rattle.pieces.specs.Pieces.{Generated, pieces, cut, keyAfter, streamOf, drawn}
+use Rattle.pieces.specs.Pieces.{Generated, pieceBytes, pieceCount, cut, keyAfter, streamOf, drawn}
 
 -- stream given before what a request hands back
 abbrev pub before : List ℕ → Generated → Generated
 before s d = record { key = d .key; stream = s ++ d .stream }
 
-pub cut-small : (n : ℕ) → n < 208 → cut n ≡ n
+pub cut-small : (n : ℕ) → n < pieceBytes → cut n ≡ n
 unfolding cut
-cut-small n h = rw (lt-ltb n 208 h)
+cut-small n h = rw (lt-ltb n pieceBytes h)
 
-pub cut-large : (n : ℕ) → 208 ≤ n → cut n ≡ 208
+pub cut-large : (n : ℕ) → pieceBytes ≤ n → cut n ≡ pieceBytes
 unfolding cut
-cut-large n h = rw (le-ltb n 208 h)
+cut-large n h = rw (le-ltb n pieceBytes h)
 
-pub cut-fits : (n : ℕ) → (cut n ≤ n) × (cut n ≤ 208)
-cut-fits n = elim (decLe 208 n) [
+pub cut-fits : (n : ℕ) → (cut n ≤ n) × (cut n ≤ pieceBytes)
+cut-fits n = elim (decLe pieceBytes n) [
   | yes h ↦ let e = cut-large n h in (omega arith, omega arith)
   | no h ↦ let e = cut-small n (omega arith) in (omega arith, omega arith)
 ]
 
 pub cut-some : (n : ℕ) → 0 < n → 0 < cut n
-cut-some n h = elim (decLe 208 n) [
+cut-some n h = elim (decLe pieceBytes n) [
   | yes k ↦ let e = cut-large n k in omega arith
   | no k ↦ let e = cut-small n (omega arith) in omega arith
 ]
 
-pub pieces-none : pieces 0 ≡ 0
-unfolding pieces
-pieces-none = refl
+pub pieceCount-none : pieceCount 0 ≡ 0
+unfolding pieceCount
+pieceCount-none = refl
 
-pub pieces-fewer : (n : ℕ) → pieces n ≤ n
-unfolding pieces
-pieces-fewer n = omega arith
+pub pieceCount-fewer : (n : ℕ) → pieceCount n ≤ n
+unfolding pieceCount
+pieceCount-fewer n = omega arith
 
 -- the pieces of a + b bytes, where a bytes are m pieces
-pub pieces-add : (m b : ℕ) → pieces (m * 208 + b) ≡ m + pieces b
-unfolding pieces
-pieces-add m b = omega arith
+pub pieceCount-add : (m b : ℕ) → pieceCount (m * pieceBytes + b) ≡ m + pieceCount b
+unfolding pieceCount
+pieceCount-add m b = omega arith
 
-pub pieces-more : (n : ℕ) → 0 < n → pieces n ≡ suc (pieces (n - cut n))
-unfolding pieces
-pieces-more n h = elim (decLe 208 n) [
+pub pieceCount-more : (n : ℕ) → 0 < n → pieceCount n ≡ suc (pieceCount (n - cut n))
+unfolding pieceCount
+pieceCount-more n h = elim (decLe pieceBytes n) [
   | yes k ↦ let e = cut-large n k in omega arith
   | no k ↦ let e = cut-small n (omega arith) in omega arith
 ]
 
-pub pieces-whole : (m : ℕ) → pieces (m * 208) ≡ m
-unfolding pieces
-pieces-whole m = omega arith
+pub pieceCount-whole : (m : ℕ) → pieceCount (m * pieceBytes) ≡ m
+unfolding pieceCount
+pieceCount-whole m = omega arith
 
 -- the first n bytes of a piece with others after it: what is cut from the piece, then the rest
-take-cut : (n : ℕ) (xs ys : List ℕ) → length xs ≡ 208 → take n (xs ++ ys) ≡ take (cut n) xs ++ take (n - cut n) ys
-take-cut n xs ys e = elim (decLe 208 n) [
+take-cut : (n : ℕ) (xs ys : List ℕ) → length xs ≡ pieceBytes → take n (xs ++ ys) ≡ take (cut n) xs ++ take (n - cut n) ys
+take-cut n xs ys e = elim (decLe pieceBytes n) [
   | yes h ↦
-      let c : cut n ≡ 208 = cut-large n h in
-      let a : n ≡ length xs + (n - 208) = omega arith in
-      rw (c, take-all 208 xs (omega arith)) (ap (λ (k : ℕ). take k (xs ++ ys)) a ∙ take-append-add xs ys (n - 208))
+      let c : cut n ≡ pieceBytes = cut-large n h in
+      let a : n ≡ length xs + (n - pieceBytes) = omega arith in
+      rw (c, take-all pieceBytes xs (omega arith)) (ap (λ (k : ℕ). take k (xs ++ ys)) a ∙ take-append-add xs ys (n - pieceBytes))
   | no h ↦
       let c : cut n ≡ n = cut-small n (omega arith) in
       let z : n - n ≡ 0 = omega arith in
@@ -78,7 +78,7 @@ take-whole a b xs ys e = rw (take-all a xs (omega arith), ← e) (take-append-ad
 module _ (generate : List ℕ → Generated) where
   pub drawn-none : (key : List ℕ) → drawn generate 0 key ≡ record { key = key; stream = [] }
   unfolding drawn keyAfter streamOf
-  drawn-none key = rw pieces-none
+  drawn-none key = rw pieceCount-none
 
   keyAfter-add : (m n : ℕ) (key : List ℕ) → keyAfter generate (m + n) key ≡ keyAfter generate n (keyAfter generate m key)
   unfolding keyAfter
@@ -93,9 +93,9 @@ module _ (generate : List ℕ → Generated) where
       ∙ ap (λ (l : List ℕ). generate key .stream ++ l) (streamOf-add m n (generate key .key))
       ∙ sym (append-assoc (generate key .stream) (streamOf generate m (generate key .key)) (streamOf generate n (keyAfter generate m (generate key .key))))
 
--- of a generator whose pieces are 208 bytes long
-module _ (generate : List ℕ → Generated) (sized : (key : List ℕ) → length (generate key .stream) ≡ 208) where
-  length-streamOf : (m : ℕ) (key : List ℕ) → length (streamOf generate m key) ≡ m * 208
+-- of a generator whose pieces are as long as the definition asks
+module _ (generate : List ℕ → Generated) (sized : (key : List ℕ) → length (generate key .stream) ≡ pieceBytes) where
+  length-streamOf : (m : ℕ) (key : List ℕ) → length (streamOf generate m key) ≡ m * pieceBytes
   unfolding streamOf
   length-streamOf zero key = refl
   length-streamOf (suc m) key =
@@ -105,10 +105,10 @@ module _ (generate : List ℕ → Generated) (sized : (key : List ℕ) → lengt
   pub drawn-piece : (n : ℕ) (key : List ℕ) → 0 < n → drawn generate n key ≡ before (take (cut n) (generate key .stream)) (drawn generate (n - cut n) (generate key .key))
   unfolding drawn keyAfter streamOf
   drawn-piece n key h =
-      rw (pieces-more n h)
+      rw (pieceCount-more n h)
       (λ i. record {
-        key = keyAfter generate (pieces (n - cut n)) (generate key .key);
-        stream = take-cut n (generate key .stream) (streamOf generate (pieces (n - cut n)) (generate key .key)) (sized key) i;
+        key = keyAfter generate (pieceCount (n - cut n)) (generate key .key);
+        stream = take-cut n (generate key .stream) (streamOf generate (pieceCount (n - cut n)) (generate key .key)) (sized key) i;
       })
 
   -- a turn of the loop that fills `out`: i bytes are done, and the piece's c bytes are put in after them
@@ -135,15 +135,15 @@ module _ (generate : List ℕ → Generated) (sized : (key : List ℕ) → lengt
         sym (append-nil out) ∙ ap (λ (l : List ℕ). l ++ []) (sym (take-all n out (omega arith))) ∙ ap (λ (d : Generated). d .stream) f,
       )
 
-  -- Draws in a row (document 02, request 14): a draw of a bytes and then one of b is a draw of a + b, where a is a multiple of 208
-  pub drawn-add : (m b : ℕ) (key : List ℕ) → drawn generate (m * 208 + b) key
-      ≡ before (drawn generate (m * 208) key .stream) (drawn generate b (drawn generate (m * 208) key .key))
+  -- Draws in a row : a draw of a bytes and then one of b is a draw of a + b, where a is a multiple of 208
+  pub drawn-add : (m b : ℕ) (key : List ℕ) → drawn generate (m * pieceBytes + b) key
+      ≡ before (drawn generate (m * pieceBytes) key .stream) (drawn generate b (drawn generate (m * pieceBytes) key .key))
   unfolding drawn
   drawn-add m b key =
       let k : List ℕ = keyAfter generate m key in
       let s : List ℕ = streamOf generate m key in
-      let t : List ℕ = streamOf generate (pieces b) k in
-      let n : length s ≡ m * 208 = length-streamOf m key in
-      let whole : pieces (m * 208) ≡ m = pieces-whole m in
-      rw (pieces-add m b, whole, keyAfter-add generate m (pieces b) key, streamOf-add generate m (pieces b) key)
-      (λ i. record { key = keyAfter generate (pieces b) k; stream = take-whole (m * 208) b s t n i })
+      let t : List ℕ = streamOf generate (pieceCount b) k in
+      let n : length s ≡ m * pieceBytes = length-streamOf m key in
+      let whole : pieceCount (m * pieceBytes) ≡ m = pieceCount-whole m in
+      rw (pieceCount-add m b, whole, keyAfter-add generate m (pieceCount b) key, streamOf-add generate m (pieceCount b) key)
+      (λ i. record { key = keyAfter generate (pieceCount b) k; stream = take-whole (m * pieceBytes) b s t n i })

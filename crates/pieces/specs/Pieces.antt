@@ -1,10 +1,13 @@
--- A request cut into pieces of 208 bytes (source document 003, 1.1.5 and 1.2.5; document 01, 'The generator': 'Draw'), for any generator: `generate`
--- makes one piece from a key.
+-- A request cut into pieces (cSHAKE-DRNG, 1.1.5 and 1.2.5; docs/RULES.md, 'Generator'), for any generator: `generate` makes one piece from a key.
 use mathlib.Core.Bool.{cond}
 use mathlib.Core.List.{List, [], _++_}
-use Prim.Native.Nat.{ℕ, zero, suc, _+_, _/_}
+use Prim.Native.Nat.{ℕ, zero, suc, _+_, _-_, _/_}
 use lib.Dec.{ltb}
 use lib.ListN.{take}
+
+-- B: the bytes of a piece, 2 * 1,088 - 512 bits
+abbrev pub pieceBytes : ℕ
+pieceBytes = 208
 
 -- what a piece, or a whole request, hands back: the new key and the stream
 pub record Generated : Type 0 where
@@ -12,12 +15,12 @@ pub record Generated : Type 0 where
   pub stream : List ℕ
 
 -- N: the pieces that n bytes take
-unfoldable pub pieces : ℕ → ℕ
-pieces n = (n + 207) / 208
+unfoldable pub pieceCount : ℕ → ℕ
+pieceCount n = (n + pieceBytes - 1) / pieceBytes
 
 -- the bytes of the next piece, where n are left to give: the last piece is cut
 unfoldable pub cut : ℕ → ℕ
-cut n = cond (ltb n 208) n 208
+cut n = cond (ltb n pieceBytes) n pieceBytes
 
 module _ (generate : List ℕ → Generated) where
   -- TMP_K(m): the key after m pieces
@@ -32,4 +35,4 @@ module _ (generate : List ℕ → Generated) where
 
   -- a request of n bytes
   unfoldable pub drawn : ℕ → List ℕ → Generated
-  drawn n key = record { key = keyAfter (pieces n) key; stream = take n (streamOf (pieces n) key) }
+  drawn n key = record { key = keyAfter (pieceCount n) key; stream = take n (streamOf (pieceCount n) key) }

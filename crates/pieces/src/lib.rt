@@ -1,19 +1,19 @@
-// A request for stream cut into pieces of 208 bytes, the last one cut (source document 003, 1.1.5; document 01, 'The generator'). What makes a piece is a
+// A request for stream cut into pieces of 208 bytes, the last one cut (cSHAKE-DRNG, 1.1.5; docs/RULES.md, 'Generator'). What makes a piece is a
 // generator's own; the definitions and the laws that a generator's loop is proved by stand in specs/.
 ghost use mathlib.Core.Path.{_≡_};
-ghost use Rattle.pieces.specs.Pieces.{pieces, cut};
+ghost use Rattle.pieces.specs.Pieces.{pieceCount, cut};
 
 // 2 * 1,088 - 512 bits.
-pub const PIECE: usize = 208;
+pub const PIECE_BYTES: usize = 208;
 
 // The pieces that a request of this many bytes takes.
-pub fn count(bytes: usize) -> usize
-    ensures { λ r. ⌜ r ≡ pieces bytes ⌝ }
+pub fn piece_count(bytes: usize) -> usize
+    ensures { λ r. ⌜ r ≡ pieceCount bytes ⌝ }
 {
     if bytes == 0 {
         0
     } else {
-        (bytes - 1) / PIECE + 1
+        (bytes - 1) / PIECE_BYTES + 1
     }
 }
 
@@ -21,5 +21,9 @@ pub fn count(bytes: usize) -> usize
 pub fn next(left: usize) -> usize
     ensures { λ r. ⌜ r ≡ cut left ⌝ }
 {
-    if left < PIECE { left } else { PIECE }
+    if left < PIECE_BYTES {
+        left
+    } else {
+        PIECE_BYTES
+    }
 }

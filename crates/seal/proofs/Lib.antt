@@ -1,5 +1,4 @@
-pub mod Combining
+pub mod Lawful
 pub mod StreamAndTag
-pub mod Outcomes
 pub mod Steps
 pub mod RoundTrip

@@ -1,5 +1,4 @@
-pub mod KeyStream
-pub mod Seal
-pub mod Answers
+-- The construction; what is asked of it; what the private parts do.
+pub mod Kmac
 pub mod RoundTrip
 pub mod Private

@@ -1,19 +1,27 @@
-// Sealing and opening by the KMAC AEAD (source document 000, section 1; document 01, 'Sealing and opening'). A refusal writes nothing, and opening
-// compares the tag before it writes.
+// Sealing and opening by the KMAC AEAD (KMAC AEAD, 1.2; docs/RULES.md, 'Sealing'). A refusal writes nothing, and opening compares the tag before it writes.
 ghost use mathlib.Core.Path.{_≡_};
 ghost use lib.ListN.{length};
-ghost use Rattle.seal.specs.Seal.{Arguments};
-ghost use Rattle.seal.specs.Answers.{sealed, sealedText, sealedTag, opened, openedText};
+ghost use Rattle.aead.specs.Aead.{sealArguments};
+ghost use Rattle.aead.specs.Answers.{sealed, sealedText, sealedTag, opened, openedText};
+ghost use Rattle.seal.specs.Kmac.{kmacAead};
+use aead::LEAST_TAG;
+use aead::lengths_refusal;
+use aead::same_beginning;
+use answers::DONE;
 use answers::Outcome;
+use answers::TAG_MISMATCH;
 use parts::begin_stream;
-use parts::combine;
-use parts::lengths_refusal;
+use parts::combine_stream;
 use parts::make_tag;
-use sponge::squeeze;
 
 mod parts;
 
-// Seals `text`: the ciphertext into `out`, which is as long, and the tag into `tag`, 16 to 64 bytes.
+// The shortest tags that sealing makes and that opening takes, as specs/Kmac.antt has them.
+const LEAST_SEALED: usize = LEAST_TAG;
+
+const LEAST_OPENED: usize = LEAST_TAG;
+
+// Seals `text`: the ciphertext into `out`, which is as long, and the tag into `tag`.
 pub fn seal(
     key: &[u8],
     iv: &[u8],
@@ -22,11 +30,15 @@ pub fn seal(
     out: &mut [u8],
     tag: &mut [u8],
 ) -> Outcome
-    ensures { λ r. ⌜ (r ≡ sealed (record { key = now (key .entry); iv = now (iv .entry); text = now (text .entry); label = now (label .entry) }) (length (now (out .entry))) (length (now (tag .entry))))
-        × (now (out .exit) ≡ sealedText (record { key = now (key .entry); iv = now (iv .entry); text = now (text .entry); label = now (label .entry) }) (now (out .entry)) (length (now (tag .entry))))
-        × (now (tag .exit) ≡ sealedTag (record { key = now (key .entry); iv = now (iv .entry); text = now (text .entry); label = now (label .entry) }) (length (now (out .entry))) (now (tag .entry))) ⌝ }
+    ensures { λ r. ⌜ (r ≡ sealed kmacAead (sealArguments (now (key .entry)) (now (iv .entry)) (now (text .entry)) (now (label .entry)))
+        (length (now (out .entry))) (length (now (tag .entry))))
+        × (now (out .exit) ≡ sealedText kmacAead (sealArguments (now (key .entry)) (now (iv .entry)) (now (text .entry)) (now (label .entry)))
+        (now (out .entry)) (length (now (tag .entry))))
+        × (now (tag .exit) ≡ sealedTag kmacAead (sealArguments (now (key .entry)) (now (iv .entry)) (now (text .entry)) (now (label .entry)))
+        (length (now (out .entry))) (now (tag .entry))) ⌝ }
 {
     let number = lengths_refusal(
+        LEAST_SEALED,
         key.len(),
         iv.len(),
         text.len(),
@@ -34,17 +46,16 @@ pub fn seal(
         out.len(),
         tag.len(),
     );
-    if number != 0 {
+    if number != DONE {
         return Outcome { number, runs: 0 };
     }
-    let mut authentication = [0u8; 32];
-    let stream = begin_stream(key, iv, text.len(), &mut authentication);
+    let stream = begin_stream(key, iv, text.len());
     let mut lanes = stream.lanes;
-    squeeze(&mut lanes, 32, out);
-    combine(text, out);
+    combine_stream(&mut lanes, text, out);
+    let authentication = stream.authentication;
     let runs = make_tag(&authentication, out, label, tag);
     Outcome {
-        number: 0,
+        number: DONE,
         runs: stream.runs + runs,
     }
 }
@@ -58,33 +69,37 @@ pub fn open(
     out: &mut [u8],
     tag: &[u8],
 ) -> Outcome
-    ensures { λ r. ⌜ (r ≡ opened (record { key = now (key .entry); iv = now (iv .entry); text = now (ciphertext .entry); label = now (label .entry) }) (length (now (out .entry))) (now (tag .entry)))
-        × (now (out .exit) ≡ openedText (record { key = now (key .entry); iv = now (iv .entry); text = now (ciphertext .entry); label = now (label .entry) }) (now (out .entry)) (now (tag .entry))) ⌝ }
+    ensures { λ r. ⌜ (r ≡ opened kmacAead (sealArguments (now (key .entry)) (now (iv .entry)) (now (ciphertext .entry)) (now (label .entry)))
+        (length (now (out .entry))) (now (tag .entry)))
+        × (now (out .exit) ≡ openedText kmacAead (sealArguments (now (key .entry)) (now (iv .entry)) (now (ciphertext .entry)) (now (label .entry)))
+        (now (out .entry)) (now (tag .entry))) ⌝ }
 {
-    let n = tag.len();
     let number = lengths_refusal(
+        LEAST_OPENED,
         key.len(),
         iv.len(),
         ciphertext.len(),
         label.len(),
         out.len(),
-        n,
+        tag.len(),
     );
-    if number != 0 {
+    if number != DONE {
         return Outcome { number, runs: 0 };
     }
-    let mut authentication = [0u8; 32];
-    let stream = begin_stream(key, iv, ciphertext.len(), &mut authentication);
+    let stream = begin_stream(key, iv, ciphertext.len());
+    let authentication = stream.authentication;
     let mut expected = [0u8; 64];
-    let runs = make_tag(&authentication, ciphertext, label, &mut expected);
-    if check::same(tag, &expected[..n]) {
-        let mut rest = stream.lanes;
-        squeeze(&mut rest, 32, out);
-        combine(ciphertext, out);
+    let tag_runs = make_tag(&authentication, ciphertext, label, &mut expected);
+    if same_beginning(tag, &expected) {
+        let mut lanes = stream.lanes;
+        combine_stream(&mut lanes, ciphertext, out);
         return Outcome {
-            number: 0,
-            runs: stream.runs + runs,
+            number: DONE,
+            runs: stream.runs + tag_runs,
         };
     }
-    Outcome { number: 8, runs: 0 }
+    Outcome {
+        number: TAG_MISMATCH,
+        runs: 0,
+    }
 }

@@ -1,6 +1,8 @@
 // Texts, labels, IVs and tags of mixed lengths, sealed and opened.
+use crate::trip::add_answers;
 use crate::trip::lent;
-use crate::trip::seal_and_open;
+use crate::trip::open_case;
+use crate::trip::seal_case;
 use testing::print;
 use testing::print_number;
 
@@ -10,40 +12,30 @@ const IVS: [usize; 5] = [0, 1, 16, 125, 126];
 
 const TAGS: [usize; 6] = [15, 16, 17, 32, 64, 65];
 
-// The texts of one length: every IV with every tag twice, and labels of every length.
-fn checksum(
-    n: usize,
-    key: &[u8],
-    iv: &[u8],
-    text: &[u8],
-    label: &[u8],
-    out: &mut [u8],
-    tag: &mut [u8],
-    back: &mut [u8],
-) -> u64 {
+// One of the 60 ways to seal a text of n bytes: every IV with every tag twice, and labels of every length.
+fn add_trip(sum: u64, n: usize, j: usize) -> u64 {
+    let of = lent(32, IVS[j % 5], n, TEXTS[j / 6 % 10], n, TAGS[j % 6]);
+    let sealed = seal_case(of);
+    add_answers(sum, sealed, open_case(of, sealed))
+}
+
+fn checksum(n: usize) -> u64 {
     let mut sum = 0;
     for j in 0..60 {
-        let of = lent(32, IVS[j % 5], n, TEXTS[j / 6], n, TAGS[j % 6]);
-        let answers = seal_and_open(sum, of, key, iv, text, label, out, tag, back);
-        sum = answers.sum;
+        sum = add_trip(sum, n, j);
     }
     sum
 }
 
-pub fn print_all(
-    key: &[u8],
-    iv: &[u8],
-    text: &[u8],
-    label: &[u8],
-    out: &mut [u8],
-    tag: &mut [u8],
-    back: &mut [u8],
-) {
+fn print_trips(n: usize) {
+    print_number(n as u64);
+    print(b": ");
+    print_number(checksum(n));
+    print(b"\n");
+}
+
+pub fn print_all() {
     for i in 0..10 {
-        let n = TEXTS[i];
-        print_number(n as u64);
-        print(b": ");
-        print_number(checksum(n, key, iv, text, label, out, tag, back));
-        print(b"\n");
+        print_trips(TEXTS[i]);
     }
 }

@@ -4,8 +4,9 @@ use mathlib.Core.Path.{ap, _∙_}
 use denote.Ref.{now}
 use lib.ListN.{length}
 use borrow.Author.Needs.{needs}
-use Rattle.generator.specs.declared.Generator.{Generator}
-use Rattle.generator.specs.Draw.{drawAnswer, drawOutput}
+use Rattle.drng.specs.declared.Generator.{Generator}
+use Rattle.drng.specs.Drng.{drawAnswer, drawOutput}
+use Rattle.generator.specs.Cshake.{cshakeDrng}
 use Rattle.c_generator.specs.Generator.{exportedAnswer}
 use Rattle.c_generator.proofs.draw.Statement.{statement}
 use Rattle.c_generator.proofs.draw.Tie as tie
@@ -15,8 +16,8 @@ returns c =
     let a = c .before .before .before .before .before .before .before .before .args in
     let e = c .before .before .before .draw .ensures in
     let i = c .before .before .before .before .before .imported .ensures in (
-      c .exported-answer .ensures ∙ ap exportedAnswer (e .0 ∙ ap (λ (g : Generator). drawAnswer g (now (a .additional)) (length (now (a .out)))) i),
-      e .1 ∙ ap (λ (g : Generator). drawOutput g (now (a .additional)) (now (a .out))) i,
+      c .exported-answer .ensures ∙ ap exportedAnswer (e .0 ∙ ap (λ (g : Generator). drawAnswer cshakeDrng g (now (a .additional)) (length (now (a .out)))) i),
+      e .1 ∙ ap (λ (g : Generator). drawOutput cshakeDrng g (now (a .additional)) (now (a .out))) i,
     )
 
 pub draw-spec : {M : Type 1} → statement M

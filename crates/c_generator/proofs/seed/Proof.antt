@@ -3,8 +3,9 @@
 use mathlib.Core.Path.{ap, _∙_}
 use denote.Ref.{now}
 use borrow.Author.Needs.{needs}
-use Rattle.generator.specs.declared.Generator.{Generator}
-use Rattle.generator.specs.Seed.{seedAnswer}
+use Rattle.drng.specs.declared.Generator.{Generator}
+use Rattle.drng.specs.Drng.{seedAnswer}
+use Rattle.generator.specs.Cshake.{cshakeDrng}
 use Rattle.c_generator.specs.Generator.{exportedAnswer}
 use Rattle.c_generator.proofs.seed.Statement.{statement}
 use Rattle.c_generator.proofs.seed.Tie as tie
@@ -14,7 +15,7 @@ returns c =
     let a = c .before .before .before .before .before .args in
     c .exported-answer .ensures
     ∙ ap exportedAnswer
-    (c .before .seed .ensures ∙ ap (λ (g : Generator). seedAnswer g (now (a .seed)) (now (a .personalisation))) (c .before .before .imported .ensures))
+    (c .before .seed .ensures ∙ ap (λ (g : Generator). seedAnswer cshakeDrng g (now (a .seed)) (now (a .personalisation))) (c .before .before .imported .ensures))
 
 pub seed-spec : {M : Type 1} → statement M
 seed-spec = tie.close (tie.spec (λ c κs. search needs) (λ c κs. search needs) (λ c κs. search needs) returns)

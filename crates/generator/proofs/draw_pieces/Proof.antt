@@ -9,7 +9,7 @@ use lib.ListN.{length, take, drop, length-take}
 use lib.Seq.{length-take-le}
 use Rattle.pieces.specs.Pieces.{drawn}
 use Rattle.pieces.specs.Laws.{before, cut-fits, cut-some, drawn-turn, drawn-end}
-use Rattle.generator.specs.Draw.{generate}
+use Rattle.generator.specs.Cshake.{generate}
 use Rattle.generator.proofs.Calls.{piece-sized}
 use Rattle.generator.proofs.draw_pieces.Statement.{statement}
 use Rattle.generator.proofs.draw_pieces.Tie as tie

@@ -1,15 +1,33 @@
--- The calls make the input of the definition's cSHAKE256 call (`Calls.call-output`); the two squeezes give its first 64 bytes, then as many of the others
--- as `out` has.
+-- The calls make the input of the piece's cSHAKE256 call (`message`'s laws of calls); the two squeezes give the new key, then as many bytes as `out` has.
 use mathlib.Core.Path.{ap, _∙_}
+use Prim.Native.Nat.{_+_}
 use native.Mathlib.Omega.{arith}
 use borrow.Author.Needs.{needs}
 use lib.ListN.{length}
-use Rattle.encode.specs.Encode.{lengthSuffixed}
 use Rattle.sponge.specs.Running.{running, squeezed}
-use Rattle.generator.specs.Draw.{generateName}
-use Rattle.generator.proofs.Calls.{call-output, pieceCall-accepted, piece-key, piece-stream}
+use Rattle.seeding.specs.Seeding.{keyBytes}
+use Rattle.pieces.specs.Pieces.{pieceBytes}
+use Rattle.message.proofs.Calls.{message-output}
+use Rattle.generator.specs.Cshake.{pieceCall}
+use Rattle.generator.proofs.Calls.{piece-start, piece-message, piece-key, piece-stream}
 use Rattle.generator.proofs.piece.Statement.{statement}
 use Rattle.generator.proofs.piece.Tie as tie
+
+-- the places of the calls, from the last on
+abbrev streaming : tie.After-slice-known2 → tie.After-squeeze2
+streaming c = c .before .before
+
+abbrev keying : tie.After-slice-known2 → tie.After-squeeze
+keying c = streaming c .before .before .before .before
+
+abbrev messaging : tie.After-slice-known2 → tie.After-absorb-message
+messaging c = keying c .before .before .before
+
+abbrev starting : tie.After-slice-known2 → tie.After-start-named
+starting c = messaging c .before .before .before .before .before
+
+abbrev entry : tie.After-slice-known2 → tie.Start
+entry c = starting c .before .before .before .before .before
 
 -- the key is 64 bytes long
 key-length : tie.Need-slice-aggregate-start-named-2
@@ -17,19 +35,16 @@ key-length c = search needs
 
 returns : tie.Need-returns
 returns c =
-    let s = c .before .before .before .before .before .before .before .before .before .before .before .before .before .before .before .before .before .before .before in
+    let s = entry c in
     let key = s .args .t1 in
     let additional = s .args .additional .now in
-    let start = c .before .before .before .before .before .before .before .before .before .before .before .before .before .before .start-named in
-    let input = c .before .before .before .before .before .before .before .before .before .before .before .absorb-encoded in
-    let end = c .before .before .before .before .before .before .before .before .before .finish in
-    let first = c .before .before .before .before .before .before .squeeze in
-    let second = c .before .before .squeeze2 in
+    let start = starting c .start-named in
+    let message = messaging c .absorb-message in
     let n = length (s .args .out .now) in
-    let ok = pieceCall-accepted additional key (s .pre .0) (omega (arith, key-length (c .before .before .before .before .before .before .before .before .before .before .before .before .before .before .before))) in
-    let given = call-output (lengthSuffixed additional) generateName key 272 ok (start .result) (start .ensures) (input .last .0) (end .last .0) (input .result) (input .ensures .0) (input .ensures .1) (end .ensures) in (
-      first .ensures .1 ∙ piece-key additional key (running (end .last .0) 0) given,
-      second .ensures .1 ∙ ap (squeezed n) (first .ensures .0) ∙ piece-stream additional key (running (end .last .0) 0) given n (s .pre .1),
+    let ok = piece-start key (omega (arith, key-length (starting c .before))) in
+    let given = message-output (pieceCall additional key) (start .result) (start .ensures) ok _ (message .last .0) (message .result) (piece-message additional) (message .ensures) (keyBytes + pieceBytes) in (
+      keying c .squeeze .ensures .1 ∙ piece-key additional key (running (message .last .0) 0) given,
+      streaming c .squeeze2 .ensures .1 ∙ ap (squeezed n) (keying c .squeeze .ensures .0) ∙ piece-stream additional key (running (message .last .0) 0) given n (s .pre .1),
     )
 
 pub piece-spec : {M : Type 1} → statement M
@@ -38,11 +53,13 @@ piece-spec =
     (tie.spec
     (λ c. search needs)
     key-length
-    (λ c κs. search needs)
-    (λ c κs. search needs)
-    (λ c κs. search needs)
+    (λ c κs. tt)
     (λ c. search needs)
-    (λ c κs. search needs)
-    (λ c κs. search needs)
+    (λ c. search needs)
+    (λ c. search needs)
+    (λ c κs. tt)
+    (λ c. search needs)
+    (λ c κs. tt)
+    (λ c κs. tt)
     (λ c. search needs)
     returns)

@@ -1,88 +1,110 @@
 -- Past the lengths' number the tag is worked out afresh and compared; only then is the text combined with the stream (`Steps.opens`).
 use mathlib.Core.Path.{_≡_, refl, sym, _∙_}
+use mathlib.Core.Bool.{Bool, true, false}
 use Prim.Native.Nat.{_+_, _≤_}
 use native.Mathlib.Omega.{arith}
 use borrow.Author.Needs.{needs}
 use lib.ListN.{length}
-use lib.Seq.{length-take-le}
 use Rattle.calls.specs.Start.{sameBytes}
-use Rattle.calls.specs.Laws.Refusal.{sameBytes-is}
-use Rattle.seal.specs.Seal.{Arguments, tagOf}
+use Rattle.aead.specs.Limits.{leastTag}
+use Rattle.aead.specs.Aead.{SealArguments, sealArguments, tagOf}
+use Rattle.aead.proofs.Refusals.{WithinLimits, lengths-accepted}
+use Rattle.aead.specs.Refusals.{openLengthsRefusal}
+use Rattle.aead.proofs.Answers.{answer, OpensInto, open-refused, open-mismatch}
+use Rattle.seal.specs.Kmac.{kmacAead}
 use Rattle.seal.proofs.StreamAndTag.{counts-fit}
-use Rattle.seal.proofs.Outcomes.{lengths-accepted, open-refused, open-mismatch}
 use Rattle.seal.proofs.Steps.{compares, opens}
 use Rattle.seal.proofs.open.Statement.{statement}
 use Rattle.seal.proofs.open.Tie as tie
 
-abbrev arguments : tie.Start → Arguments
-arguments s = record { key = s .args .key .now; iv = s .args .iv .now; text = s .args .ciphertext .now; label = s .args .label .now }
+-- the places of the calls, from the last on
+abbrev combining : tie.After-struct-known → tie.After-combine-stream
+combining c = c .before .before .before
+
+abbrev same : tie.After-combine-stream → tie.Then2
+same c = c .before .before .before .before
+
+abbrev tagging : tie.After-same-beginning → tie.After-make-tag
+tagging c = c .before .before .before
+
+abbrev streaming : tie.After-make-tag → tie.After-begin-stream
+streaming c = c .before .before .before .before
+
+abbrev entry : tie.After-lengths-refusal → tie.Start
+entry c = c .before .before .before .before .before .before .before
+
+abbrev start : tie.After-same-beginning → tie.Start
+start c = entry (streaming (tagging c) .before .before)
+
+abbrev arguments : tie.Start → SealArguments
+arguments s = sealArguments (s .args .key .now) (s .args .iv .now) (s .args .ciphertext .now) (s .args .label .now)
+
+abbrev Within : tie.Start → Type 0
+Within s =
+    WithinLimits leastTag (length (s .args .key .now)) (length (s .args .iv .now)) (length (s .args .ciphertext .now)) (length (s .args .label .now))
+    (length (s .args .out .now)) (length (s .args .tag .now))
+
+-- what the lengths are once they are accepted
+within : (c : tie.Else1) → Within (entry (c .before))
+within c = lengths-accepted _ _ _ _ _ _ _ (sym (c .before .lengths-refusal .ensures) ∙ c .if1 .left)
+
+-- no number is given for them
+accepted : (c : tie.Else1) → 0 ≡ openLengthsRefusal kmacAead (arguments (entry (c .before))) (length (entry (c .before) .args .out .now)) (length (entry (c .before) .args .tag .now))
+accepted c = sym (c .if1 .left) ∙ c .before .lengths-refusal .ensures
 
 returns : tie.Need-returns
 returns c =
-    let s = c .before .before .before .before .before .before .before .before in
-    open-refused (arguments s) (s .args .out .now) (s .args .tag .now) (c .before .lengths-refusal .result) (c .before .lengths-refusal .ensures) (c .if1 .taken)
-
--- what the lengths are once they are accepted
-fits : (c : tie.Else1) → (length (c .before .before .before .before .before .before .before .before .args .key .now) ≡ 32) × (length (c .before .before .before .before .before .before .before .before .args .iv .now) ≤ 4096)
-    × (length (c .before .before .before .before .before .before .before .before .args .ciphertext .now) + length (c .before .before .before .before .before .before .before .before .args .label .now) ≤ 16777216) × (length (c .before .before .before .before .before .before .before .before .args .out .now) ≡ length (c .before .before .before .before .before .before .before .before .args .ciphertext .now))
-    × (16 ≤ length (c .before .before .before .before .before .before .before .before .args .tag .now)) × (length (c .before .before .before .before .before .before .before .before .args .tag .now) ≤ 64)
-fits c = lengths-accepted _ _ _ _ _ _ (sym (c .before .lengths-refusal .ensures) ∙ c .if1 .left)
+    let s = entry (c .before) in
+    let number = c .before .lengths-refusal in
+    let r = open-refused kmacAead (arguments s) (s .args .out .now) (s .args .tag .now) (number .result) (number .ensures) (c .if1 .taken) in
+    (r .outcome, r .text)
 
 begin-stream-requires : tie.Need-begin-stream-requires
 begin-stream-requires c κs =
-    let f = fits (c .before) in
-    (f .0, f .1, omega (arith, f .2), refl)
+    let w = within c in
+    (omega (arith, w .key), w .iv, omega (arith, w .input))
+
+key-length : tie.Need-slice-aggregate-make-tag
+key-length c = search needs
 
 make-tag-requires : tie.Need-make-tag-requires
-make-tag-requires c κs =
-    let key : length (c .before .before .before .begin-stream .last .1 .1 .1 .0) ≡ 32 = c .before .before .before .begin-stream .kept .1 .1 .1 .0 in
-    (omega arith, fits (c .before .before .before .before .before) .2, omega arith)
+make-tag-requires c κs = (omega (arith, key-length (c .before)), within (c .before .before .before .before) .input, omega arith)
 
-array-share-prefix-expected : tie.Need-array-share-prefix-expected
-array-share-prefix-expected c =
-    let tag : length (c .before .make-tag .last .1 .1 .1 .0) ≡ 64 = c .before .make-tag .kept .1 .1 .1 .0 in
-    omega (arith, fits (c .before .before .before .before .before .before .before) .5)
-
-slice-aggregate-same : tie.Need-slice-aggregate-same
-slice-aggregate-same c =
-    let made = c .before .before .make-tag in
-    let n : length (made .last .1 .1 .1 .0) ≡ 64 = made .kept .1 .1 .1 .0 in
-    sym (length-take-le (length (c .before .before .before .before .before .before .before .before .before .before .before .before .before .before .before .before .args .tag .now)) (made .last .1 .1 .1 .0) (omega (arith, fits (c .before .before .before .before .before .before .before .before) .5)))
+abbrev SameIs : Bool → tie.Start → Type 0
+SameIs b s = b ≡ sameBytes (s .args .tag .now) (tagOf kmacAead (arguments s) (s .args .ciphertext .now) (length (s .args .tag .now)))
 
 -- the comparison is the definition's
-same-is : (c : tie.After-same) → c .same .result ≡ sameBytes (c .before .before .before .before .before .before .before .before .before .before .before .before .before .before .before .before .before .args .tag .now) (tagOf (arguments (c .before .before .before .before .before .before .before .before .before .before .before .before .before .before .before .before .before)) (c .before .before .before .before .before .before .before .before .before .before .before .before .before .before .before .before .before .args .ciphertext .now) (length (c .before .before .before .before .before .before .before .before .before .before .before .before .before .before .before .before .before .args .tag .now)))
+same-is : (c : tie.After-same-beginning) → SameIs (c .same-beginning .result) (start c)
 same-is c =
-    let made = c .before .before .before in
-    let f = made .before .before .before .before in
-    let past = f .before .before in
-    let s = past .before .before .before .before .before .before .before .before in
-    compares (arguments s) (f .begin-stream .last .1 .1 .1 .0) (f .begin-stream .result) (f .begin-stream .ensures)
-    (s .args .tag .now) (made .make-tag .last .1 .1 .1 .0) (made .make-tag .result) (made .make-tag .ensures) (fits past .5)
-    (c .same .result) (sameBytes-is (c .same .result) (s .args .tag .now) _ (c .same .ensures))
+    compares (arguments (start c)) (streaming (tagging c) .begin-stream .result) (streaming (tagging c) .begin-stream .ensures) (start c .args .tag .now)
+    (tagging c .make-tag .last .1 .1 .1 .0) (tagging c .make-tag .result) (tagging c .make-tag .ensures) (within (streaming (tagging c) .before) .longTag)
+    (c .same-beginning .result) (c .same-beginning .ensures)
 
-combine-requires : tie.Need-combine-requires
-combine-requires c κs = c .before .before .before .squeeze .kept .1 .1 .0 ∙ fits (c .before .before .before .before .before .before .before .before .before .before .before .before .before .before .before .before .before) .3
+matches : (c : tie.Then2) → SameIs true (start (c .before))
+matches c = sym (c .if2 .taken) ∙ same-is (c .before)
+
+differs : (c : tie.Else2) → SameIs false (start (c .before))
+differs c = sym (c .if2 .left) ∙ same-is (c .before)
+
+opens-into : (c : tie.After-combine-stream)
+    → OpensInto kmacAead (arguments (start (same c .before))) (start (same c .before) .args .out .now) (start (same c .before) .args .tag .now)
+    (answer 0 (streaming (tagging (same c .before)) .begin-stream .result .runs + tagging (same c .before) .make-tag .result)) (c .combine-stream .last .1 .1 .0)
+opens-into c =
+    let compared = same c .before in
+    let made = tagging compared in
+    let f = streaming made in
+    opens (arguments (start compared)) (f .begin-stream .result) (f .begin-stream .ensures) (start compared .args .tag .now) (made .make-tag .last .1 .1 .1 .0)
+    (made .make-tag .result) (made .make-tag .ensures) (within (f .before) .longTag) (start compared .args .out .now) (c .combine-stream .last .1 .1 .0)
+    (accepted (f .before)) (within (f .before) .output) (within (f .before) .leastTag) (c .combine-stream .ensures) (matches (same c))
 
 returns-2 : tie.Need-returns-2
-returns-2 c =
-    let b = c .before .before .before in
-    let q = b .before .before .before .before in
-    let same = q .before .before .before .before in
-    let made = same .before .before .before .before in
-    let f = made .before .before .before .before in
-    let past = f .before .before in
-    let s = past .before .before .before .before .before .before .before .before in
-    opens (arguments s) (f .begin-stream .last .1 .1 .1 .0) (f .begin-stream .result) (f .begin-stream .ensures)
-    (s .args .tag .now) (made .make-tag .last .1 .1 .1 .0) (made .make-tag .result) (made .make-tag .ensures) (fits past .5)
-    (s .args .out .now) (q .squeeze .last .1 .1 .0) (b .combine .last .1 .0)
-    (sym (past .if1 .left) ∙ past .before .lengths-refusal .ensures) (fits past .3) (fits past .4)
-    (q .squeeze .ensures .1) (b .combine .ensures) (sym (same-is (same .before)) ∙ same .if2 .taken)
+returns-2 c = (opens-into (combining c) .outcome, opens-into (combining c) .text)
 
 returns-3 : tie.Need-returns-3
 returns-3 c =
-    let s = c .before .before .before .before .before .before .before .before .before .before .before .before .before .before .before .before .before .before in
-    open-mismatch (arguments s) (s .args .out .now) (s .args .tag .now) (sym (c .before .before .before .before .before .before .before .before .before .before .if1 .left) ∙ c .before .before .before .before .before .before .before .before .before .before .before .lengths-refusal .ensures)
-    (sym (same-is (c .before)) ∙ c .if2 .left)
+    let s = start (c .before) in
+    let r = open-mismatch kmacAead (arguments s) (s .args .out .now) (s .args .tag .now) (accepted (streaming (tagging (c .before)) .before)) (differs c) in
+    (r .outcome, r .text)
 
 pub open-spec : {M : Type 1} → statement M
 open-spec =
@@ -90,17 +112,14 @@ open-spec =
     (tie.spec
     (λ c κs. tt)
     returns
-    (λ c. refl)
     begin-stream-requires
-    (λ c. search needs)
+    key-length
     (λ c. refl)
     make-tag-requires
-    array-share-prefix-expected
-    slice-aggregate-same
+    (λ c. search needs)
     (λ c κs. tt)
     (λ c κs. tt)
-    combine-requires
-    (λ c. counts-fit _ _ (c .before .before .before .before .before .before .before .before .before .before .before .before .before .before .before .before .before .before .before .begin-stream .ensures .few) (c .before .before .before .before .before .before .before .before .before .before .before .before .before .before .before .make-tag .ensures .few))
-    (λ c. c .before .before .before .combine .kept .1 .0 ∙ c .before .before .before .before .before .before .before .squeeze .kept .1 .1 .0)
+    (λ c. counts-fit _ _ (streaming (tagging (same (combining c) .before)) .begin-stream .ensures .bounded) (tagging (same (combining c) .before) .make-tag .ensures .bounded))
+    (λ c. search needs)
     returns-2
     returns-3)

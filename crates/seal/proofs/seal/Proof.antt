@@ -4,54 +4,83 @@ use Prim.Native.Nat.{_+_, _≤_}
 use native.Mathlib.Omega.{arith}
 use borrow.Author.Needs.{needs}
 use lib.ListN.{length}
-use Rattle.seal.specs.Seal.{Arguments}
+use Rattle.aead.specs.Limits.{leastTag}
+use Rattle.aead.specs.Aead.{SealArguments, sealArguments}
+use Rattle.aead.proofs.Refusals.{WithinLimits, lengths-accepted}
+use Rattle.aead.specs.Refusals.{sealRefusal}
+use Rattle.aead.proofs.Answers.{answer, Seals, seal-refused}
+use Rattle.seal.specs.Kmac.{kmacAead}
 use Rattle.seal.proofs.StreamAndTag.{counts-fit}
-use Rattle.seal.proofs.Outcomes.{lengths-accepted, seal-refused}
 use Rattle.seal.proofs.Steps.{seals}
 use Rattle.seal.proofs.seal.Statement.{statement}
 use Rattle.seal.proofs.seal.Tie as tie
 
-abbrev arguments : tie.Start → Arguments
-arguments s = record { key = s .args .key .now; iv = s .args .iv .now; text = s .args .text .now; label = s .args .label .now }
+-- the places of the calls, from the last on
+abbrev tagging : tie.After-struct-known → tie.After-make-tag
+tagging c = c .before .before .before
+
+abbrev combining : tie.After-make-tag-arg2 → tie.After-combine-stream
+combining c = c .before .before .before .before .before .before
+
+abbrev streaming : tie.After-combine-stream → tie.After-begin-stream
+streaming c = c .before .before .before .before
+
+abbrev entry : tie.After-lengths-refusal → tie.Start
+entry c = c .before .before .before .before .before .before .before
+
+abbrev start : tie.After-make-tag → tie.Start
+start m = entry (streaming (combining (m .before)) .before .before)
+
+abbrev arguments : tie.Start → SealArguments
+arguments s = sealArguments (s .args .key .now) (s .args .iv .now) (s .args .text .now) (s .args .label .now)
+
+abbrev Within : tie.Start → Type 0
+Within s =
+    WithinLimits leastTag (length (s .args .key .now)) (length (s .args .iv .now)) (length (s .args .text .now)) (length (s .args .label .now))
+    (length (s .args .out .now)) (length (s .args .tag .now))
+
+-- what the lengths are once they are accepted
+within : (c : tie.Else1) → Within (entry (c .before))
+within c = lengths-accepted _ _ _ _ _ _ _ (sym (c .before .lengths-refusal .ensures) ∙ c .if1 .left)
+
+-- no number is given for them
+accepted : (c : tie.Else1) → 0 ≡ sealRefusal kmacAead (arguments (entry (c .before))) (length (entry (c .before) .args .out .now)) (length (entry (c .before) .args .tag .now))
+accepted c = sym (c .if1 .left) ∙ c .before .lengths-refusal .ensures
 
 returns : tie.Need-returns
 returns c =
-    let s = c .before .before .before .before .before .before .before .before in
-    seal-refused (arguments s) (s .args .out .now) (s .args .tag .now) (c .before .lengths-refusal .result) (c .before .lengths-refusal .ensures) (c .if1 .taken)
-
--- what the lengths are once they are accepted
-fits : (c : tie.Else1) → (length (c .before .before .before .before .before .before .before .before .args .key .now) ≡ 32) × (length (c .before .before .before .before .before .before .before .before .args .iv .now) ≤ 4096)
-    × (length (c .before .before .before .before .before .before .before .before .args .text .now) + length (c .before .before .before .before .before .before .before .before .args .label .now) ≤ 16777216) × (length (c .before .before .before .before .before .before .before .before .args .out .now) ≡ length (c .before .before .before .before .before .before .before .before .args .text .now))
-    × (16 ≤ length (c .before .before .before .before .before .before .before .before .args .tag .now)) × (length (c .before .before .before .before .before .before .before .before .args .tag .now) ≤ 64)
-fits c = lengths-accepted _ _ _ _ _ _ (sym (c .before .lengths-refusal .ensures) ∙ c .if1 .left)
+    let s = entry (c .before) in
+    let number = c .before .lengths-refusal in
+    let r = seal-refused kmacAead (arguments s) (s .args .out .now) (s .args .tag .now) (number .result) (number .ensures) (c .if1 .taken) in
+    (r .outcome, r .text, r .handed)
 
 begin-stream-requires : tie.Need-begin-stream-requires
 begin-stream-requires c κs =
-    let f = fits (c .before) in
-    (f .0, f .1, omega (arith, f .2), refl)
+    let w = within c in
+    (omega (arith, w .key), w .iv, omega (arith, w .input))
 
-combine-requires : tie.Need-combine-requires
-combine-requires c κs = c .before .before .before .squeeze .kept .1 .1 .0 ∙ fits (c .before .before .before .before .before .before .before .before .before .before) .3
+key-length : tie.Need-slice-aggregate-make-tag
+key-length c = search needs
 
 make-tag-requires : tie.Need-make-tag-requires
 make-tag-requires c κs =
-    let f = fits (c .before .before .before .before .before .before .before .before .before .before .before .before .before .before .before .before) in
-    let key : length (c .before .before .before .before .before .before .before .before .before .before .before .before .before .before .begin-stream .last .1 .1 .1 .0) ≡ 32 = c .before .before .before .before .before .before .before .before .before .before .before .before .before .before .begin-stream .kept .1 .1 .1 .0 in
-    let text : length (c .before .before .before .before .before .combine .last .1 .0) ≡ length (c .before .before .before .before .before .before .before .before .before .squeeze .last .1 .1 .0) = c .before .before .before .before .before .combine .kept .1 .0 in
-    let out : length (c .before .before .before .before .before .before .before .before .before .squeeze .last .1 .1 .0) ≡ length (c .before .before .before .before .before .before .before .before .before .before .before .before .before .before .before .before .before .before .before .before .before .before .before .before .args .out .now) = c .before .before .before .before .before .before .before .before .before .squeeze .kept .1 .1 .0 in
-    (omega arith, omega (arith, f .2, f .3), f .5)
+    let b = combining c in
+    let w = within (streaming b .before) in
+    (omega (arith, key-length (c .before .before)), omega (arith, b .combine-stream .kept .1 .1 .0, w .input, w .output), w .longTag)
+
+seals-into : (m : tie.After-make-tag)
+    → Seals kmacAead (arguments (start m)) (start m .args .out .now) (start m .args .tag .now)
+    (answer 0 (streaming (combining (m .before)) .begin-stream .result .runs + m .make-tag .result))
+    (combining (m .before) .combine-stream .last .1 .1 .0) (m .make-tag .last .1 .1 .1 .0)
+seals-into m =
+    let b = combining (m .before) in
+    let f = streaming b in
+    seals (arguments (start m)) (f .begin-stream .result) (f .begin-stream .ensures) (start m .args .out .now) (start m .args .tag .now)
+    (b .combine-stream .last .1 .1 .0) (m .make-tag .last .1 .1 .1 .0) (m .make-tag .result) (accepted (f .before)) (within (f .before) .output)
+    (b .combine-stream .ensures) (m .make-tag .ensures)
 
 returns-2 : tie.Need-returns-2
-returns-2 c =
-    let m = c .before .before .before in
-    let b = m .before .before .before .before .before .before in
-    let q = b .before .before .before .before in
-    let f = q .before .before .before .before .before in
-    let past = f .before .before in
-    let s = past .before .before .before .before .before .before .before .before in
-    seals (arguments s) (f .begin-stream .last .1 .1 .1 .0) (f .begin-stream .result) (f .begin-stream .ensures)
-    (s .args .out .now) (s .args .tag .now) (q .squeeze .last .1 .1 .0) (b .combine .last .1 .0) (m .make-tag .last .1 .1 .1 .0) (m .make-tag .result)
-    (sym (past .if1 .left) ∙ past .before .lengths-refusal .ensures) (fits past .3) (q .squeeze .ensures .1) (b .combine .ensures) (m .make-tag .ensures)
+returns-2 c = (seals-into (tagging c) .outcome, seals-into (tagging c) .text, seals-into (tagging c) .handed)
 
 pub seal-spec : {M : Type 1} → statement M
 seal-spec =
@@ -59,13 +88,11 @@ seal-spec =
     (tie.spec
     (λ c κs. tt)
     returns
-    (λ c. refl)
     begin-stream-requires
     (λ c κs. tt)
-    combine-requires
-    (λ c. search needs)
+    key-length
     make-tag-requires
-    (λ c. counts-fit _ _ (c .before .before .before .before .before .before .before .before .before .before .before .before .before .before .before .before .before .before .begin-stream .ensures .few) (c .before .before .before .make-tag .ensures .few))
-    (λ c. c .before .before .before .before .before .before .before .before .before .combine .kept .1 .0 ∙ c .before .before .before .before .before .before .before .before .before .before .before .before .before .squeeze .kept .1 .1 .0)
-    (λ c. c .before .before .before .make-tag .kept .1 .1 .1 .0)
+    (λ c. counts-fit _ _ (streaming (combining (tagging c .before)) .begin-stream .ensures .bounded) (tagging c .make-tag .ensures .bounded))
+    (λ c. search needs)
+    (λ c. search needs)
     returns-2)

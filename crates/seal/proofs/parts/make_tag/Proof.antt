@@ -1,47 +1,60 @@
--- The calls make KMACXOF256 of ciphertext and label (`StreamAndTag.xof-output`), one piece after the other.
+-- The calls make KMACXOF256 of ciphertext and label (`StreamAndTag`).
 use mathlib.Core.Path.{_≡_, refl, _∙_}
 use mathlib.Core.List.{[], _++_}
-use Prim.Native.Nat.{ℕ, _+_, _/_, _≤_}
-use lib.ListN.{length}
-use Rattle.calls.specs.Call.{kmacxof256}
-use Rattle.calls.specs.Count.{outputRuns}
-use Rattle.sponge.specs.Running.{running}
-use Rattle.sponge.proofs.Chain.{then-piece, then-finish}
-use Rattle.seal.proofs.StreamAndTag.{tag-accepted, xof-output, tag-runs, tag-few, message-fits, ended-fits, input-fits, count-fits, zeroCode}
+use Prim.Native.Nat.{_+_, _/_, _≤_}
+use native.Mathlib.Omega.{arith}
+use borrow.Author.Needs.{needs}
+use lib.ListN.{length, length-append}
+use Rattle.message.proofs.Calls.{start-bounded}
+use Rattle.seal.specs.Private.{runsBound}
+use Rattle.seal.proofs.StreamAndTag.{keyed-accepted, zeroCode, tag-output, tag-runs, runs-bounded}
 use Rattle.seal.proofs.parts.make_tag.Statement.{statement}
 use Rattle.seal.proofs.parts.make_tag.Tie as tie
 
-few : (s : tie.After-start-keyed) (o : ℕ) → o ≡ outputRuns (length (s .before .before .before .before .before .before .args .tag .now))
-    → s .start-keyed .result .blocks + (length (s .before .before .before .before .before .before .args .ciphertext .now) + length (s .before .before .before .before .before .before .args .label .now) + 2) / 136 + 1 + o ≤ 2000000
-few s o e = tag-few _ _ _ o (s .start-keyed .ensures .bounded) (s .before .before .before .before .before .before .pre .1) (s .before .before .before .before .before .before .pre .2) e
+-- the places of the calls, from the last on
+abbrev squeezing : tie.After-struct-known → tie.After-squeeze
+squeezing c = c .before .before .before
 
-add-result-5 : tie.Need-add-result-5
-add-result-5 c = count-fits _ (few (c .before .before .before .before .before .before .before .before .before .before .before .before .before .before .before .before .before) (c .output-runs .result) (c .output-runs .ensures))
+abbrev messaging : tie.After-struct-known → tie.After-absorb-message
+messaging c = squeezing c .before .before .before
+
+abbrev starting : tie.After-struct-known → tie.After-start-keyed
+starting c = messaging c .before .before .before .before
+
+abbrev entry : tie.After-struct-known → tie.Start
+entry c = starting c .before .before .before .before .before .before
+
+length-message : (c : tie.After-struct-known)
+    → length ((entry c .args .ciphertext .now ++ entry c .args .label .now) ++ zeroCode) ≡ length (entry c .args .ciphertext .now) + length (entry c .args .label .now) + 2
+length-message c = simp length-append
+
+bounded : (c : tie.After-output-runs)
+    → starting (c .before) .start-keyed .result .blocks + messaging (c .before) .absorb-message .result + c .output-runs .result ≤ runsBound
+bounded c =
+    let s = c .before in
+    let a = entry s .args in
+    let x = a .ciphertext .now in
+    let l = a .label .now in
+    runs-bounded (starting s .start-keyed .result .blocks) (length x + length l) (messaging s .absorb-message .result) (length (a .tag .now)) (c .output-runs .result)
+    (start-bounded (starting s .start-keyed .ensures)) (entry s .pre .1) (omega (arith, messaging s .absorb-message .ensures .blocks, length-message s)) (omega (arith, entry s .pre .2))
+    (c .output-runs .ensures)
 
 returns : tie.Need-returns
 returns c =
-    let squeeze = c .before .before .before .before .squeeze in
-    let finish = c .before .before .before .before .before .before .before .finish in
-    let third = c .before .before .before .before .before .before .before .before .before .absorb3 in
-    let second = c .before .before .before .before .before .before .before .before .before .before .before .before .absorb2 in
-    let first = c .before .before .before .before .before .before .before .before .before .before .before .before .before .before .absorb in
-    let s1 = c .before .before .before .before .before .before .before .before .before .before .before .before .before .before .before .before .before in
-    let start = s1 .start-keyed in
-    let a = s1 .before .before .before .before .before .before .args in
-    let pre = s1 .before .before .before .before .before .before .pre in
-    let from = running (start .result .lanes) 0 in
+    let s = c .before in
+    let a = entry s .args in
+    let k = a .authentication .now in
     let x = a .ciphertext .now in
     let l = a .label .now in
-    let n = length (a .tag .now) in
-    let ok = tag-accepted (a .authentication .now) (pre .0) in
-    let labelled = then-piece from (first .last .0) (second .last .0) x (first .result) (first .ensures .0) (first .ensures .1) l (second .result) (second .ensures .0) in
-    let all = then-piece from (second .last .0) (third .last .0) (x ++ l) (second .result) labelled (second .ensures .1) zeroCode (third .result) (third .ensures .0) in
-    let end = then-finish from (third .last .0) (finish .last .0) ((x ++ l) ++ zeroCode) (third .result) all (third .ensures .1) (start .result .suffix) (finish .ensures) in
-    let call = kmacxof256 (a .authentication .now) (x ++ l) n [] in
+    let t = length (a .tag .now) in
+    let start = starting s .start-keyed in
+    let message = messaging s .absorb-message in
+    let ok = keyed-accepted k [] (entry s .pre .0) (omega arith) in
+    let b = message .last .0 in
     record {
-      tag = squeeze .ensures .1 ∙ xof-output call (start .result) (start .ensures) ok (running (finish .last .0) 0) n end;
-      runs = tag-runs (a .authentication .now) x l n (c .output-runs .result) (start .result) (start .ensures) ok (c .output-runs .ensures);
-      few = few s1 (c .output-runs .result) (c .output-runs .ensures);
+      is = squeezing s .squeeze .ensures .1 ∙ tag-output k x l b t (message .result) (start .result) (start .ensures) ok (message .ensures);
+      runs = omega (arith, tag-runs k x l b t (message .result) (start .result) (start .ensures) ok (message .ensures), c .output-runs .ensures);
+      bounded = bounded c;
     }
 
 pub make-tag-spec : {M : Type 1} → statement M
@@ -50,17 +63,11 @@ make-tag-spec =
     (tie.spec
     (λ c. refl)
     (λ c κs. tt)
-    (λ c κs. tt)
-    (λ c κs. tt)
     (λ c. refl)
     (λ c κs. tt)
     (λ c κs. tt)
+    (λ c. omega (arith, start-bounded (starting c .start-keyed .ensures), messaging c .absorb-message .ensures .blocks, length-message c, entry c .pre .1))
     (λ c κs. tt)
-    (λ c. message-fits _ (c .before .before .before .before .before .before .before .before .before .before .before .before .before .before .before .before .before .before .before .before .before .pre .1))
-    (λ c. ended-fits _ (c .before .before .before .before .before .before .before .before .before .before .before .before .before .before .before .before .before .before .before .before .before .pre .1))
-    (λ c. input-fits _ _ (c .before .before .before .before .before .before .before .before .before .before .before .before .before .before .before .before .start-keyed .ensures .bounded) (c .before .before .before .before .before .before .before .before .before .before .before .before .before .before .before .before .before .before .before .before .before .before .pre .1) .0)
-    (λ c. input-fits _ _ (c .before .before .before .before .before .before .before .before .before .before .before .before .before .before .before .before .start-keyed .ensures .bounded) (c .before .before .before .before .before .before .before .before .before .before .before .before .before .before .before .before .before .before .before .before .before .before .pre .1) .1)
-    (λ c κs. tt)
-    add-result-5
-    (λ c. c .before .before .before .before .squeeze .kept .1 .1 .0)
+    (λ c. omega (arith, bounded c))
+    (λ c. search needs)
     returns)

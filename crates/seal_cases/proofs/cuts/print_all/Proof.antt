@@ -1,16 +1,14 @@
--- The loop ends after 6 turns; the buffer keeps its length.
-use borrow.Author.Needs.{needs}
-use mathlib.Core.Path.{_≡_}
+-- A loop over a table: the index stays within it.
 use Prim.Native.Nat.{_≤_, _-_}
-use lib.ListN.{length}
+use borrow.Author.Needs.{needs}
 use Rattle.seal_cases.proofs.cuts.print_all.Statement.{statement}
 use Rattle.seal_cases.proofs.cuts.print_all.Tie as tie
 
 abbrev Inv-loop : tie.InvT-loop
-Inv-loop key iv text label out tag back₀ i₀ back i = (i ≤ 6) × (length back ≡ length back₀)
+Inv-loop sealed i₀ i = i ≤ 6
 
 abbrev μ-loop : tie.MeasureT-loop
-μ-loop key iv text label out tag back₀ i₀ back i = 6 - i
+μ-loop sealed i₀ i = 6 - i
 
 pub print-all-spec : {M : Type 1} → statement M
 print-all-spec =
@@ -24,9 +22,6 @@ print-all-spec =
     (λ c. search needs)
     (λ c. search needs)
     (λ c κs. search needs)
-    (λ c. search needs)
-    (λ c. search needs)
-    (λ c. search needs)
     (λ c. search needs)
     (λ c. search needs)
     (λ c. search needs)

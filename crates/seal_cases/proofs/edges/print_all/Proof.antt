@@ -1,16 +1,14 @@
--- The loop ends after 20 turns; the buffers keep their lengths.
-use borrow.Author.Needs.{needs}
-use mathlib.Core.Path.{_≡_}
+-- A loop over a table: the index stays within it.
 use Prim.Native.Nat.{_≤_, _-_}
-use lib.ListN.{length}
+use borrow.Author.Needs.{needs}
 use Rattle.seal_cases.proofs.edges.print_all.Statement.{statement}
 use Rattle.seal_cases.proofs.edges.print_all.Tie as tie
 
 abbrev Inv-loop : tie.InvT-loop
-Inv-loop key iv text label out₀ tag₀ back₀ i₀ out tag back i = (i ≤ 20) × (length out ≡ length out₀) × (length tag ≡ length tag₀) × (length back ≡ length back₀)
+Inv-loop i₀ i = i ≤ 20
 
 abbrev μ-loop : tie.MeasureT-loop
-μ-loop key iv text label out₀ tag₀ back₀ i₀ out tag back i = 20 - i
+μ-loop i₀ i = 20 - i
 
 pub print-all-spec : {M : Type 1} → statement M
 print-all-spec =
@@ -21,11 +19,6 @@ print-all-spec =
     (λ c. search needs)
     (λ c κs. search needs)
     (λ c κs. search needs)
-    (λ c κs. search needs)
-    (λ c κs. search needs)
-    (λ c. search needs)
-    (λ c. search needs)
-    (λ c. search needs)
     (λ c. search needs)
     (λ c. search needs)
     (λ c. search needs)

@@ -1,16 +1,14 @@
--- The loop ends after 10 turns; the buffers keep their lengths.
-use borrow.Author.Needs.{needs}
-use mathlib.Core.Path.{_≡_}
+-- A loop over a table: the index stays within it.
 use Prim.Native.Nat.{_≤_, _-_}
-use lib.ListN.{length}
+use borrow.Author.Needs.{needs}
 use Rattle.seal_cases.proofs.round_trips.print_all.Statement.{statement}
 use Rattle.seal_cases.proofs.round_trips.print_all.Tie as tie
 
 abbrev Inv-loop : tie.InvT-loop
-Inv-loop key iv text label out₀ tag₀ back₀ i₀ t10 t11 out tag back i = (i ≤ 10) × (length out ≡ length out₀) × (length tag ≡ length tag₀) × (length back ≡ length back₀)
+Inv-loop i₀ i = i ≤ 10
 
 abbrev μ-loop : tie.MeasureT-loop
-μ-loop key iv text label out₀ tag₀ back₀ i₀ t10 t11 out tag back i = 10 - i
+μ-loop i₀ i = 10 - i
 
 pub print-all-spec : {M : Type 1} → statement M
 print-all-spec =
@@ -22,15 +20,6 @@ print-all-spec =
     (λ c. search needs)
     (λ c. search needs)
     (λ c κs. search needs)
-    (λ c. search needs)
-    (λ c κs. search needs)
-    (λ c κs. search needs)
-    (λ c κs. search needs)
-    (λ c. search needs)
-    (λ c κs. search needs)
-    (λ c. search needs)
-    (λ c. search needs)
-    (λ c. search needs)
     (λ c. search needs)
     (λ c. search needs)
     (λ c. search needs)

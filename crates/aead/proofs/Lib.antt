@@ -1,0 +1,5 @@
+pub mod Combining
+pub mod Comparing
+pub mod Refusals
+pub mod Answers
+pub mod RoundTrip

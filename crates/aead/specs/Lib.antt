@@ -1,0 +1,6 @@
+-- The limits; the definitions, in the order of a sealing; what a caller gets back; the theorems.
+pub mod Limits
+pub mod Aead
+pub mod Refusals
+pub mod Answers
+pub mod RoundTrip

@@ -1,0 +1,1 @@
+// Demand 3: which calls and which seedings of the cSHAKE generator are fed alike. The claim stands in specs/, its proof in proofs/.

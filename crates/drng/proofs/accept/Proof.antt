@@ -1,0 +1,10 @@
+-- Field by field.
+use mathlib.Core.Path.{refl}
+use Rattle.drng.proofs.accept.Statement.{statement}
+use Rattle.drng.proofs.accept.Tie as tie
+
+returns : tie.Need-returns
+returns c = refl
+
+pub accept-spec : {M : Type 1} → statement M
+accept-spec = tie.close (tie.spec returns)

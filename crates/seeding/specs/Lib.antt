@@ -1,0 +1,4 @@
+-- The definition of a seeding; then facts by computation, and the laws.
+pub mod Seeding
+pub mod Facts
+pub mod Laws
