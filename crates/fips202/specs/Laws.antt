@@ -2,4 +2,5 @@
 pub mod Xor
 pub mod Table
 pub mod Lanes
+pub mod Bytes
 pub mod Examples

@@ -1,5 +1,3 @@
 pub mod Absorbing
-pub mod XorBytes
-pub mod WholeLanes
 pub mod Whole
 pub mod Chain

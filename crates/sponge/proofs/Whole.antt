@@ -9,62 +9,71 @@ use borrow.Author.Tests.{lt-ltb, le-ltb}
 use lib.ListN.{length, set, getD, take, drop, replicate, length-append, length-set, length-replicate}
 use lib.Seq.{take-append-le, take-append-add, take-length, take-at, drop-at}
 use Rattle.fips202.specs.Fips202.{keccakP}
-use Rattle.encode.specs.Padding.{padding, padded}
+use Rattle.encode.specs.Padding.{rate, blocks, padding, padded}
 use Rattle.encode.specs.Laws.Padding.{padded-split, padding-set, length-padding}
 use Rattle.encode.specs.Laws.Lengths.{length-padded}
-use Rattle.sponge.specs.Sponge.{xorByte, xorBytes, byteAt, bytesAt, absorb, squeeze, sponge}
+use Rattle.fips202.specs.Bytes.{xorByte, xorBytes, byteAt, bytesAt}
+use Rattle.fips202.specs.Laws.Bytes.{xorBytes-set, xorBytes-zeros, bytesAt-append, length-bytesAt}
+use Rattle.sponge.specs.Sponge.{absorb, squeeze, sponge}
+use Rattle.sponge.specs.Same.{SameSponge}
 use Rattle.sponge.specs.Running.{Running, running, fresh, absorbByte, absorbed, finished, refreshed, squeezedByte, afterByte, squeezed, after}
-use Rattle.sponge.proofs.Absorbing.{absorbByte-in, absorbByte-last, absorbed-append, absorbed-block, absorbed-blocks, refreshed-in, refreshed-out, squeezed-add, length-squeezed, squeezed-in, after-in, length-bytesAt, bytesAt-append}
-use Rattle.sponge.proofs.XorBytes.{xorBytes-set, xorBytes-zeros}
+use Rattle.sponge.proofs.Absorbing.{absorbByte-in, absorbByte-last, absorbed-append, absorbed-block, absorbed-blocks}
+use Rattle.sponge.proofs.Absorbing.{refreshed-in, refreshed-out, squeezed-add, length-squeezed, squeezed-in, after-in}
 
 -- ---- the position
 
-pub absorbed-position : (bs a : List ℕ) (p : ℕ) → p < 136 → absorbed (running a p) bs .position ≡ (p + length bs) % 136
+pub absorbed-position : (bs a : List ℕ) (p : ℕ) → p < rate → absorbed (running a p) bs .position ≡ (p + length bs) % rate
 unfolding absorbed
 absorbed-position [] a p h = omega arith
-absorbed-position (b ∷ bs) a p h = elim (decLe 135 p) [
-  | yes k ↦ ap (λ (s : Running). absorbed s bs .position) (absorbByte-last a p b k) ∙ absorbed-position bs (keccakP (xorByte a p b)) 0 (omega arith) ∙ omega arith
-  | no k ↦ ap (λ (s : Running). absorbed s bs .position) (absorbByte-in a p b (omega arith)) ∙ absorbed-position bs (xorByte a p b) (p + 1) (omega arith) ∙ ap (λ (x : ℕ). x % 136) (omega arith)
+absorbed-position (b ∷ bs) a p h = elim (decLe (rate - 1) p) [
+  | yes k ↦ ap (λ (s : Running). absorbed s bs .position) (absorbByte-last a p b k)
+      ∙ absorbed-position bs (keccakP (xorByte a p b)) 0 (omega arith)
+      ∙ omega arith
+  | no k ↦ ap (λ (s : Running). absorbed s bs .position) (absorbByte-in a p b (omega arith))
+      ∙ absorbed-position bs (xorByte a p b) (p + 1) (omega arith)
+      ∙ ap (λ (x : ℕ). x % rate) (omega arith)
 ]
 
 -- ---- the end of the input
 
-xor-padding : (suffix : ℕ) (a : List ℕ) (p : ℕ) → p < 136 → xorBytes a p (padding suffix (136 - p)) ≡ xorByte (xorByte a p suffix) 135 128
+xor-padding : (suffix : ℕ) (a : List ℕ) (p : ℕ) → p < rate → xorBytes a p (padding suffix (rate - p)) ≡ xorByte (xorByte a p suffix) (rate - 1) 128
 unfolding xorBytes
 xor-padding suffix a p h =
-    ap (xorBytes a p) (padding-set suffix (136 - p))
-    ∙ xorBytes-set (suffix ∷ replicate (136 - p - 1) 0) a p (136 - p - 1) 128 (omega (arith, length-replicate {A = ℕ} (136 - p - 1) 0))
-    ∙ ap (λ (r : List ℕ). xorByte r (p + (136 - p - 1)) 128) (xorBytes-zeros (136 - p - 1) (xorByte a p suffix) (p + 1))
+    ap (xorBytes a p) (padding-set suffix (rate - p))
+    ∙ xorBytes-set (suffix ∷ replicate (rate - p - 1) 0) a p (rate - p - 1) 128 (omega (arith, length-replicate {A = ℕ} (rate - p - 1) 0))
+    ∙ ap (λ (r : List ℕ). xorByte r (p + (rate - p - 1)) 128) (xorBytes-zeros (rate - p - 1) (xorByte a p suffix) (p + 1))
     ∙ ap (λ (k : ℕ). xorByte (xorByte a p suffix) k 128) (omega arith)
 
-pub absorbed-padding : (suffix : ℕ) (a : List ℕ) (p : ℕ) → p < 136 → absorbed (running a p) (padding suffix (136 - p)) ≡ finished suffix (running a p)
+pub absorbed-padding : (suffix : ℕ) (a : List ℕ) (p : ℕ) → p < rate → absorbed (running a p) (padding suffix (rate - p)) ≡ finished suffix (running a p)
 unfolding finished
 absorbed-padding suffix a p h =
-    absorbed-block (padding suffix (136 - p)) a p h (ap (λ (x : ℕ). p + x) (length-padding suffix (136 - p) (omega arith)) ∙ omega arith)
+    absorbed-block (padding suffix (rate - p)) a p h (ap (λ (x : ℕ). p + x) (length-padding suffix (rate - p) (omega arith)) ∙ omega arith)
     ∙ ap (λ (r : List ℕ). running (keccakP r) 0) (xor-padding suffix a p h)
 
 -- input that was absorbed in any pieces, then finished, is the padded input absorbed by blocks
 pub absorbed-whole : (suffix : ℕ) (m : List ℕ) → finished suffix (absorbed fresh m)
-    ≡ running (absorb (length (padded suffix m) / 136) (replicate 25 0) (padded suffix m)) 0
+    ≡ running (absorb (length (padded suffix m) / rate) (replicate 25 0) (padded suffix m)) 0
 absorbed-whole suffix m =
     let f : Running = absorbed fresh m in
-    let e : f .position ≡ length m % 136
-    = absorbed-position m (replicate 25 0) 0 (omega arith) ∙ ap (λ (x : ℕ). x % 136) (zero-add (length m)) in
-    let q : ℕ = 136 - length m % 136 in
-    let n : length (padded suffix m) ≡ length (padded suffix m) / 136 * 136 = omega (arith, length-padded suffix m) in
+    let e : f .position ≡ length m % rate
+    = absorbed-position m (replicate 25 0) 0 (omega arith) ∙ ap (λ (x : ℕ). x % rate) (zero-add (length m)) in
+    let q : ℕ = rate - length m % rate in
+    let n : length (padded suffix m) ≡ length (padded suffix m) / rate * rate = omega (arith, length-padded suffix m) in
     sym (absorbed-padding suffix (f .lanes) (f .position) (omega arith))
-    ∙ ap (λ (x : ℕ). absorbed f (padding suffix (136 - x))) e
+    ∙ ap (λ (x : ℕ). absorbed f (padding suffix (rate - x))) e
     ∙ sym (absorbed-append fresh m (padding suffix q))
     ∙ ap (absorbed fresh) (sym (padded-split suffix m))
-    ∙ absorbed-blocks (length (padded suffix m) / 136) (replicate 25 0) (padded suffix m) n
+    ∙ absorbed-blocks (length (padded suffix m) / rate) (replicate 25 0) (padded suffix m) n
 
 -- ---- the output
 
 -- a block that was squeezed whole is followed by the next one
-squeezed-afterByte : (m : ℕ) (a : List ℕ) → squeezed m (running a 136) ≡ squeezed m (running (keccakP a) 0)
+squeezed-afterByte : (m : ℕ) (a : List ℕ) → squeezed m (running a rate) ≡ squeezed m (running (keccakP a) 0)
 unfolding squeezed squeezedByte afterByte
 squeezed-afterByte zero a = refl
-squeezed-afterByte (suc m) a = ap (λ (t : Running). byteAt (t .lanes) (t .position) ∷ squeezed m (running (t .lanes) (t .position + 1))) (refreshed-out a 136 (omega arith) ∙ sym (refreshed-in (keccakP a) 0 (omega arith)))
+squeezed-afterByte (suc m) a =
+    ap (λ (t : Running). byteAt (t .lanes) (t .position) ∷ squeezed m (running (t .lanes) (t .position + 1)))
+    (refreshed-out a rate (omega arith) ∙ sym (refreshed-in (keccakP a) 0 (omega arith)))
 
 take-bytesAt : (n k : ℕ) (a : List ℕ) (p : ℕ) → take n (bytesAt a p (n + k)) ≡ bytesAt a p n
 take-bytesAt n k a p =
@@ -78,40 +87,40 @@ unfolding squeezed
 squeezed-none zero a h = refl
 squeezed-none (suc n) a h = absurd (omega arith)
 
-pub squeezed-squeeze : (k : ℕ) (a : List ℕ) (n : ℕ) → n ≤ k * 136 → squeezed n (running a 0) ≡ take n (squeeze k a)
+pub squeezed-squeeze : (k : ℕ) (a : List ℕ) (n : ℕ) → n ≤ k * rate → squeezed n (running a 0) ≡ take n (squeeze k a)
 unfolding squeeze
 squeezed-squeeze zero a n h = squeezed-none n a (omega arith)
-squeezed-squeeze (suc k) a n h = elim (decLe n 136) [
+squeezed-squeeze (suc k) a n h = elim (decLe n rate) [
   | yes l ↦ squeezed-in n a 0 (omega arith)
-      ∙ sym (take-append-le n (bytesAt a 0 136) (squeeze k (keccakP a)) (omega (arith, length-bytesAt 136 a 0))
-      ∙ ap (λ (x : ℕ). take n (bytesAt a 0 x)) (omega arith) ∙ take-bytesAt n (136 - n) a 0)
+      ∙ sym (take-append-le n (bytesAt a 0 rate) (squeeze k (keccakP a)) (omega (arith, length-bytesAt rate a 0))
+      ∙ ap (λ (x : ℕ). take n (bytesAt a 0 x)) (omega arith) ∙ take-bytesAt n (rate - n) a 0)
   | no l ↦
-      let e : n ≡ 136 + (n - 136) = omega arith in
+      let e : n ≡ rate + (n - rate) = omega arith in
       ap (λ (x : ℕ). squeezed x (running a 0)) e
-      ∙ squeezed-add 136 (n - 136) (running a 0)
-      ∙ ap₂ (λ (x y : List ℕ). x ++ y) (squeezed-in 136 a 0 (omega arith))
-      (ap (squeezed (n - 136)) (after-in 136 a 0 (omega arith)) ∙ squeezed-afterByte (n - 136) a ∙ squeezed-squeeze k (keccakP a) (n - 136) (omega arith))
-      ∙ sym (take-append-add (bytesAt a 0 136) (squeeze k (keccakP a)) (n - 136))
-      ∙ ap (λ (x : ℕ). take x (bytesAt a 0 136 ++ squeeze k (keccakP a))) (ap (λ (x : ℕ). x + (n - 136)) (length-bytesAt 136 a 0) ∙ sym e)
+      ∙ squeezed-add rate (n - rate) (running a 0)
+      ∙ ap₂ (λ (x y : List ℕ). x ++ y) (squeezed-in rate a 0 (omega arith))
+      (ap (squeezed (n - rate)) (after-in rate a 0 (omega arith)) ∙ squeezed-afterByte (n - rate) a ∙ squeezed-squeeze k (keccakP a) (n - rate) (omega arith))
+      ∙ sym (take-append-add (bytesAt a 0 rate) (squeeze k (keccakP a)) (n - rate))
+      ∙ ap (λ (x : ℕ). take x (bytesAt a 0 rate ++ squeeze k (keccakP a))) (ap (λ (x : ℕ). x + (n - rate)) (length-bytesAt rate a 0) ∙ sym e)
 ]
 
 -- ---- together: the one-shot answer
 
-pub squeezed-whole : (suffix : ℕ) (m : List ℕ) (n : ℕ) → squeezed n (finished suffix (absorbed fresh m)) ≡ sponge (padded suffix m) n
+pub squeezed-whole : SameSponge
 unfolding sponge
 squeezed-whole suffix m n =
     ap (squeezed n) (absorbed-whole suffix m)
-    ∙ squeezed-squeeze ((n + 135) / 136) (absorb (length (padded suffix m) / 136) (replicate 25 0) (padded suffix m)) n (omega arith)
+    ∙ squeezed-squeeze (blocks n) (absorb (length (padded suffix m) / rate) (replicate 25 0) (padded suffix m)) n (omega arith)
 
 -- ---- a shorter output is the beginning of a longer one
 
 -- the lanes that all input has been absorbed into
 abbrev pub filled : List ℕ → List ℕ
-filled m = absorb (length m / 136) (replicate 25 0) m
+filled m = absorb (length m / rate) (replicate 25 0) m
 
 pub sponge-running : (m : List ℕ) (n : ℕ) → sponge m n ≡ squeezed n (running (filled m) 0)
 unfolding sponge
-sponge-running m n = sym (squeezed-squeeze ((n + 135) / 136) (filled m) n (omega arith))
+sponge-running m n = sym (squeezed-squeeze (blocks n) (filled m) n (omega arith))
 
 module _ (n k : ℕ) (s : Running) where
   pub squeezed-take : take n (squeezed (n + k) s) ≡ squeezed n s
@@ -132,9 +141,9 @@ length-sponge m n = ap length (sponge-running m n) ∙ length-squeezed n (runnin
 
 -- ---- zeros to the block's end
 
-pub absorbed-zeros : (a : List ℕ) (p : ℕ) → 0 < p → p < 136 → absorbed (running a p) (replicate ((136 - p) % 136) 0) ≡ running (keccakP a) 0
+pub absorbed-zeros : (a : List ℕ) (p : ℕ) → 0 < p → p < rate → absorbed (running a p) (replicate ((rate - p) % rate) 0) ≡ running (keccakP a) 0
 absorbed-zeros a p k h =
-    let e : (136 - p) % 136 ≡ 136 - p = omega arith in
+    let e : (rate - p) % rate ≡ rate - p = omega arith in
     ap (λ (n : ℕ). absorbed (running a p) (replicate n 0)) e
-    ∙ absorbed-block (replicate (136 - p) 0) a p h (simp length-replicate (omega arith))
-    ∙ ap (λ (r : List ℕ). running (keccakP r) 0) (xorBytes-zeros (136 - p) a p)
+    ∙ absorbed-block (replicate (rate - p) 0) a p h (simp length-replicate (omega arith))
+    ∙ ap (λ (r : List ℕ). running (keccakP r) 0) (xorBytes-zeros (rate - p) a p)

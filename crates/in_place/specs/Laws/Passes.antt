@@ -84,6 +84,12 @@ even-round = round-is 0 even-rows
 pub odd-round : (s : Places) (t : List ℕ) (k : ℕ) → Known s → t ≡ firstRow (lanes 1 s) → RoundIs 1 t k s
 odd-round = round-is 1 odd-rows
 
+-- ---- a row that is made of the lanes taken, and put, is passed
+
+pub row-passed : (r j : ℕ) (d : List ℕ) (s : Places) (e : List ℕ) → e ≡ heldRow j (taken r j d s) → put (1 - r) j e s ≡ passed r j d s
+unfolding passed
+row-passed r j d s e h = ap (λ (x : List ℕ). put (1 - r) j x s) h
+
 -- ---- the steps in a row are the round
 
 -- a list by its five elements, as the code hands on θ's effect

@@ -2,6 +2,7 @@
 use Prim.Native.Nat.{_%_}
 use borrow.Author.Needs.{needs}
 use native.Mathlib.Omega.{arith}
+use Rattle.encode.specs.Padding.{rate}
 use Rattle.sponge.specs.Running.{absorbed}
 use Rattle.sponge.proofs.Whole.{absorbed-zeros}
 use Rattle.sponge.proofs.absorb_zeros.Statement.{statement}
@@ -17,7 +18,7 @@ permute-requires c κs = search needs
 returns-2 : tie.Need-returns-2
 returns-2 c =
     let a = c .before .before .before .args in
-    rw (absorbed-zeros (a .lanes .now) (a .position % 136) (omega arith) (omega arith), c .permute .ensures)
+    rw (absorbed-zeros (a .lanes .now) (a .position % rate) (omega arith) (omega arith), c .permute .ensures)
 
 pub absorb-zeros-spec : {M : Type 1} → statement M
 absorb-zeros-spec = tie.close (tie.spec returns permute-requires returns-2)

@@ -1,0 +1,115 @@
+// Bytes put into the lanes of a block by exclusive or (FIPS 202, B.1): single bytes, lanes of eight, and whole blocks.
+ghost use mathlib.Core.Path.{_≡_};
+ghost use Prim.Native.Nat.{_+_, _-_, _%_, _<_, _≤_, min};
+ghost use lib.ListN.{length, take, drop};
+ghost use Rattle.fips202.specs.Bytes.{xorByte, xorBytes};
+ghost use Rattle.encode.specs.Digits.{value};
+ghost use Rattle.encode.specs.Padding.{rate};
+use encode::RATE;
+
+// The bytes of `s` from `at` on as a number: one, two, four and eight of them. The compiler makes each eight one load.
+fn load1(s: &[u8], at: usize) -> u64
+    requires { ⌜ at + 1 ≤ length (now s) ⌝ }
+    ensures { λ r. ⌜ (r ≡ value 256 (take 1 (drop at (now (s .entry))))) × (r < 0x100) ⌝ }
+{
+    s[at] as u64
+}
+
+fn load2(s: &[u8], at: usize) -> u64
+    requires { ⌜ at + 2 ≤ length (now s) ⌝ }
+    ensures { λ r. ⌜ (r ≡ value 256 (take 2 (drop at (now (s .entry))))) × (r < 0x1_0000) ⌝ }
+{
+    load1(s, at) + load1(s, at + 1) * 0x100
+}
+
+fn load4(s: &[u8], at: usize) -> u64
+    requires { ⌜ at + 4 ≤ length (now s) ⌝ }
+    ensures { λ r. ⌜ (r ≡ value 256 (take 4 (drop at (now (s .entry))))) × (r < 0x1_0000_0000) ⌝ }
+{
+    load2(s, at) + load2(s, at + 2) * 0x1_0000
+}
+
+fn load8(s: &[u8], at: usize) -> u64
+    requires { ⌜ at + 8 ≤ length (now s) ⌝ }
+    ensures { λ r. ⌜ r ≡ value 256 (take 8 (drop at (now (s .entry)))) ⌝ }
+{
+    load4(s, at) + load4(s, at + 4) * 0x1_0000_0000
+}
+
+// The byte `b` put in at byte `p` of the block.
+fn xor_at(lanes: &mut [u64; 25], p: usize, b: u8)
+    requires { ⌜ p < rate ⌝ }
+    ensures { λ r. ⌜ now (lanes .exit) ≡ xorByte (now (lanes .entry)) p b ⌝ }
+{
+    lanes[p / 8] = lanes[p / 8] ^ ((b as u64) << (8 * (p % 8)));
+}
+
+// The eight bytes of `s` from `at` on put in at byte `p`, where a lane begins.
+fn xor_lane(lanes: &mut [u64; 25], p: usize, s: &[u8], at: usize)
+    requires { ⌜ (p % 8 ≡ 0) × (p < rate) × (at + 8 ≤ length (now s)) ⌝ }
+    ensures { λ r. ⌜ now (lanes .exit) ≡ xorBytes (now (lanes .entry)) p (take 8 (drop at (now (s .entry)))) ⌝ }
+{
+    lanes[p / 8] = lanes[p / 8] ^ load8(s, at);
+}
+
+// A whole block of `s` from `at` on put into the first 17 lanes.
+fn xor_block(lanes: &mut [u64; 25], s: &[u8], at: usize)
+    requires { ⌜ at + rate ≤ length (now s) ⌝ }
+    ensures { λ r. ⌜ now (lanes .exit) ≡ xorBytes (now (lanes .entry)) 0 (take rate (drop at (now (s .entry)))) ⌝ }
+{
+    let mut i = 0;
+    while i < 17 {
+        lanes[i] = lanes[i] ^ load8(s, at + 8 * i);
+        i += 1;
+    }
+}
+
+// The `n` bytes of `s` from `at` on put in from byte `p` on, where the block has room for them: whole lanes by lanes, single bytes only at ragged ends.
+fn xor_some(lanes: &mut [u64; 25], p: usize, s: &[u8], at: usize, n: usize)
+    requires { ⌜ (p + n ≤ rate) × (at + n ≤ length (now s)) ⌝ }
+    ensures { λ r. ⌜ now (lanes .exit) ≡ xorBytes (now (lanes .entry)) p (take n (drop at (now (s .entry)))) ⌝ }
+{
+    let mut i = 0;
+    while i < n {
+        if (p + i) % 8 == 0 {
+            if 8 <= n - i {
+                xor_lane(lanes, p + i, s, at + i);
+                i += 8;
+                continue;
+            }
+        }
+        xor_at(lanes, p + i, s[at + i]);
+        i += 1;
+    }
+}
+
+// The byte `b` put in at byte `p` of the block, p taken modulo the block's length.
+pub fn xor_byte(lanes: &mut [u64; 25], p: usize, b: u8)
+    ensures { λ r. ⌜ now (lanes .exit) ≡ xorByte (now (lanes .entry)) (p % rate) b ⌝ }
+{
+    xor_at(lanes, p % RATE, b);
+}
+
+// As many bytes of `s` from `at` on as the block has room for from byte `p` on; how many they are.
+pub fn xor_in(lanes: &mut [u64; 25], p: usize, s: &[u8], at: usize) -> usize
+    ensures { λ r. ⌜ (r ≡ min (rate - p) (length (now (s .entry)) - at))
+        × (now (lanes .exit) ≡ xorBytes (now (lanes .entry)) p (take r (drop at (now (s .entry))))) ⌝ }
+{
+    if RATE <= p {
+        return 0;
+    }
+    if s.len() <= at {
+        return 0;
+    }
+    let left = s.len() - at;
+    if left < RATE - p {
+        xor_some(lanes, p, s, at, left);
+        return left;
+    }
+    if p == 0 {
+        xor_block(lanes, s, at);
+        return RATE;
+    }
+    xor_some(lanes, p, s, at, RATE - p);
+    RATE - p
+}
