@@ -6,7 +6,7 @@ from choose import SEED
 
 ROWS, LARGEST = 4_096, 2_097_151
 VALUES = [0, 1, 127, 128, 300, 16_383, 16_384, 2_097_150, LARGEST]
-FAR = [0, ROWS, ROWS + 1, 2**31, 2**32 - 1]  # chutes of other plans, or of none
+FAR = [0, ROWS, ROWS + 1, 2**31, 2**32 - 1, 2**32, 2**32 + 1, 2**64 - 1]  # chutes of other plans, or of none
 SOURCES = [None, "site", "house"]
 
 
@@ -85,10 +85,10 @@ def row_of(site, house, chute):
 def walk_of(lent):
     """A walk over some rows, and past the last where there are few; of a refused plan too."""
     state = plan.walker(lent)
-    yield written("plan_start", [lent], [state.number])
+    yield written("plan_start", [lent], [state.number, state.place])
     for _ in range(min(12, plan.read(lent)[1]) + 2):
         number, found, state = plan.next_row(state)
-        yield written("plan_step", [], [number, found])
+        yield written("plan_step", [], [number, found, state.place])
 
 
 def read(rng):

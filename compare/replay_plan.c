@@ -11,14 +11,14 @@ static bool read_plan(char *const *f, const buffer *plan)
 
 static bool destination(char *const *f, const buffer *plan)
 {
-    hf_destination found = hf_plan_destination(plan->bytes, plan->length, (uint32_t)number_of(f[2]));
+    hf_destination found = hf_plan_destination(plan->bytes, plan->length, number_of(f[2]));
     return found.number == number_of(f[3]) && found.destination == number_of(f[4]);
 }
 
 static bool row(char *const *f, const buffer *site)
 {
     buffer house = lend_bytes(f[2]);
-    hf_row found = hf_plan_row(site->bytes, site->length, house.bytes, house.length, (uint32_t)number_of(f[3]));
+    hf_row found = hf_plan_row(site->bytes, site->length, house.bytes, house.length, number_of(f[3]));
     bool same = found.number == number_of(f[4]) && found.source == number_of(f[5]) && found.start == number_of(f[6]) &&
                 found.length == number_of(f[7]) && still(&house, f[2]);
     give_back(&house);
@@ -35,13 +35,13 @@ static bool start(char *const *f, const buffer *plan)
     give_back(&walked);
     walked = lend_bytes(f[1]);
     walk = hf_plan_start(walked.bytes, walked.length);
-    return walk.number == number_of(f[2]) && still(&walked, f[1]);
+    return walk.number == number_of(f[2]) && walk.at == number_of(f[3]) && still(&walked, f[1]);
 }
 
 static bool step(char *const *f)
 {
     hf_walk found = hf_plan_step(walked.bytes, walked.length, walk.at, walk.number);
-    bool same = found.number == number_of(f[1]) && found.destination == number_of(f[2]) && (found.number == 0 || found.next == walk.at);
+    bool same = found.number == number_of(f[1]) && found.destination == number_of(f[2]) && found.next == number_of(f[3]);
     walk.at = found.next;
     return same && edges_stand(&walked);
 }

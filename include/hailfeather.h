@@ -168,11 +168,11 @@ typedef struct {
 hf_rows hf_plan_read(const uint8_t *plan, size_t plan_length);
 
 /* The destination of one chute. Refuses with 5, 9, 10: the last where chute is 0 or greater than this plan's number of rows. */
-hf_destination hf_plan_destination(const uint8_t *plan, size_t plan_length, uint32_t chute);
+hf_destination hf_plan_destination(const uint8_t *plan, size_t plan_length, uint64_t chute);
 
 /* Where the bytes of a chute's row are: in the site plan if it has that chute, else in the house plan. Refuses with 5, 9, 10: the first two where either
    plan is bad, the last where neither has the chute. */
-hf_row hf_plan_row(const uint8_t *site, size_t site_length, const uint8_t *house, size_t house_length, uint32_t chute);
+hf_row hf_plan_row(const uint8_t *site, size_t site_length, const uint8_t *house, size_t house_length, uint64_t chute);
 
 /* How many bytes the plan with these destinations takes. Refuses with 9 where there are more than 4,096 rows or one is greater than 2,097,151. */
 hf_length hf_plan_length(const uint32_t *rows, size_t rows_length);

@@ -88,7 +88,7 @@ fn report(arguments: &Arguments) -> Result<(), Failure> {
 }
 
 fn lookup(arguments: &Arguments) -> Result<(), Failure> {
-    let chute = args::number(arguments.operand(0).unwrap_or_default(), "CHUTE")?.min(u64::from(u32::MAX)) as u32;
+    let chute = args::number(arguments.operand(0).unwrap_or_default(), "CHUTE")?;
     let site = read(input::operand(arguments, 1))?;
     let Some(house) = arguments.value("house") else {
         return output::text(&format!("{}\n", plan::destination(&site, chute)?));

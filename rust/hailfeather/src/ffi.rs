@@ -159,8 +159,8 @@ extern "C" {
     pub fn hf_generator_draw(generator: hf_generator, additional: *const u8, additional_length: usize, out: *mut u8, out_length: usize) -> hf_draw;
 
     pub fn hf_plan_read(plan: *const u8, plan_length: usize) -> hf_rows;
-    pub fn hf_plan_destination(plan: *const u8, plan_length: usize, chute: u32) -> hf_destination;
-    pub fn hf_plan_row(site: *const u8, site_length: usize, house: *const u8, house_length: usize, chute: u32) -> hf_row;
+    pub fn hf_plan_destination(plan: *const u8, plan_length: usize, chute: u64) -> hf_destination;
+    pub fn hf_plan_row(site: *const u8, site_length: usize, house: *const u8, house_length: usize, chute: u64) -> hf_row;
     pub fn hf_plan_length(rows: *const u32, rows_length: usize) -> hf_length;
     pub fn hf_plan_write(rows: *const u32, rows_length: usize, out: *mut u8, out_length: usize) -> u8;
     pub fn hf_plan_start(plan: *const u8, plan_length: usize) -> hf_cursor;

@@ -45,7 +45,7 @@ pub fn rows(plan: &[u8]) -> Result<u32, Refusal> {
 /// assert_eq!(destination(&plan, 4).unwrap_err().to_string(), "refused 10: the plan has no such chute");
 /// # Ok::<(), hailfeather::Refusal>(())
 /// ```
-pub fn destination(plan: &[u8], chute: u32) -> Result<u32, Refusal> {
+pub fn destination(plan: &[u8], chute: u64) -> Result<u32, Refusal> {
     // SAFETY: as in `rows`.
     let found = unsafe { ffi::hf_plan_destination(plan.as_ptr(), plan.len(), chute) };
     check("plan_destination", found.number).map(|()| found.destination)
@@ -85,7 +85,7 @@ pub struct Row<'a> {
 /// assert_eq!(row(&site, &house, 4).unwrap_err().to_string(), "refused 10: neither plan has such a chute");
 /// # Ok::<(), hailfeather::Refusal>(())
 /// ```
-pub fn row<'a>(site: &'a [u8], house: &'a [u8], chute: u32) -> Result<Row<'a>, Refusal> {
+pub fn row<'a>(site: &'a [u8], house: &'a [u8], chute: u64) -> Result<Row<'a>, Refusal> {
     // SAFETY: as in `rows`.
     let found = unsafe { ffi::hf_plan_row(site.as_ptr(), site.len(), house.as_ptr(), house.len(), chute) };
     check("plan_row", found.number)?;
