@@ -66,7 +66,7 @@ class Cases:
 
     def end(self):
         """The checksum."""
-        self.out(str(self.total))
+        self.out("%d " % self.total)
         self.put(b"e")
 
     def pair(self, site, house, chute):
@@ -74,20 +74,20 @@ class Cases:
         number, source, start, length = plan.row(site, house, chute)
         part = {"site": site, "house": house, None: b""}[source][start : start + length]
         self.out("%d:%d %d %d %s" % (number, SOURCES.index(source), start, length, part.hex()))
-        self.out(part.hex())  # once as returned, once as cut at its location
+        self.out(part.hex() + "\n")  # once as returned, once as cut at its location
 
     def written(self, rows):
         """Rows written into buffers of the length they take, one byte more, one less, and none."""
         self.put(b"w", b"".join(row.to_bytes(4, "little") for row in rows))
         data = write_plan(rows)
         needed = len(data or b"")
-        text = "%d:%d" % (9 if data is None else 0, needed)
+        text = "%d:%d " % (9 if data is None else 0, needed)
         for lent in (needed, needed + 1, max(needed - 1, 0), 0):
             fits = data is not None and lent == len(data)
             total = 0
             for byte in (data + bytes([0xEE]) * (BUFFER - lent) if fits else bytes([0xEE]) * BUFFER):
                 total = added(total, byte)
-            text += " %d %d" % (0 if fits else 9, total)
+            text += "%d:%d " % (0 if fits else 9, total)
         self.out(text)
 
     def walked(self, data):

@@ -1,9 +1,8 @@
 // The chute plan: reading, looking up, the row of two plans as an offset and a length, writing, and walking.
 ghost use mathlib.Core.Path.{_≡_};
-ghost use lib.ListN.{length};
 ghost use Rattle.plan.specs.Answers.{summaryOf, lookupOf};
 ghost use Rattle.plan_pair.specs.Pair.{locationOf};
-ghost use Rattle.plan_write.specs.Write.{lengthOf, writeRefusal, writtenOf};
+ghost use Rattle.plan_write.specs.Write.{lengthOf, WritesPlan};
 ghost use Rattle.plan_walk.specs.Walk.{walkStart, walkStep};
 ghost use Rattle.c_plan.specs.Row.{exportedLocation};
 ghost use Rattle.c_plan.specs.Walk.{importedCursor, exportedAnswer};
@@ -44,7 +43,7 @@ pub extern "C" fn hf_plan_length(rows: &[u32]) -> PlanLength
 
 #[no_mangle]
 pub extern "C" fn hf_plan_write(rows: &[u32], out: &mut [u8]) -> u8
-    ensures { λ r. ⌜ (r ≡ writeRefusal (now (rows .entry)) (length (now (out .entry)))) × (now (out .exit) ≡ writtenOf (now (rows .entry)) (now (out .entry))) ⌝ }
+    ensures { λ r. ⌜ WritesPlan (now (rows .entry)) (now (out .entry)) (now (out .exit)) r ⌝ }
 {
     plan_write::write_plan(rows, out)
 }

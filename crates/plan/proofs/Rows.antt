@@ -14,7 +14,8 @@ use Rattle.leb128.specs.Laws.Reading.{Rest, groups-rest}
 use Rattle.leb128.specs.declared.Number.{Number}
 use Rattle.leb128.specs.declared.Number.the-variants.{Value, Bad}
 use Rattle.plan.specs.Limits.{maxPlan, maxRows, padded}
-use Rattle.plan.specs.Plan.{planNumber, row, rowAnswer, Plan, rows, refused, malformed, consRow, afterNumber, rowsFrom, planIn, planOf, noRow, rowAt, planAnswer}
+use Rattle.plan.specs.Plan.{planNumber, row, rowAnswer, Plan, rows, refused, malformed, consRow, afterNumber, rowsFrom, planIn, planOf, noRow}
+use Rattle.plan.specs.Plan.{rowAt, planAnswer}
 use Rattle.plan.specs.Answers.{ReadsRow}
 use Rattle.plan.specs.declared.Row.{Row}
 use Rattle.plan.specs.declared.RowRead.{RowRead}
@@ -38,7 +39,8 @@ row-known : (at : ℕ) (s : List ℕ) (p : Parsed) (r : Row) → Rest at s p →
     → (p ≡ value (r .destination) (r .end) (drop (r .end) s)) × (r ≡ row (r .destination) at (r .end))
 row-known at s (value v n rest) r u e =
     let er : row v at n ≡ r = cc in
-    subst (λ (q : Row). (value v n rest ≡ value (q .destination) (q .end) (drop (q .end) s)) × (q ≡ row (q .destination) at (q .end))) er (ap (value v n) (u .1), refl)
+    subst (λ (q : Row). (value v n rest ≡ value (q .destination) (q .end) (drop (q .end) s)) × (q ≡ row (q .destination) at (q .end))) er
+    (ap (value v n) (u .1), refl)
 row-known at s (bad place) r u e = let z : _≡_ {A = ℕ} 0 1 = cc in absurd (omega arith)
 
 pub row-found : (at : ℕ) (s : List ℕ) (r : Row) → rowAnswer at (planNumber at (drop at s)) ≡ Found r
@@ -109,7 +111,8 @@ module _ (c i at n : ℕ) (d : Row) (s : List ℕ) where
   keeping-old r h e q = rw (ne-eqb _ _ q) at (keeping-more r h e)
 
   -- a turn that finds anything but a row
-  pub keeping-bad : (place : ℕ) → i < n → rowAnswer at (planNumber at (drop at s)) ≡ NotRow place → keeping c i d (rowsFrom (n - i) at (drop at s)) ≡ Refused 9 place
+  pub keeping-bad : (place : ℕ) → i < n → rowAnswer at (planNumber at (drop at s)) ≡ NotRow place
+      → keeping c i d (rowsFrom (n - i) at (drop at s)) ≡ Refused 9 place
   unfolding rowsFrom
   keeping-bad place h e =
       let k : n - i ≡ suc (n - (i + 1)) = omega arith in

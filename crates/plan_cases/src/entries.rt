@@ -4,53 +4,62 @@ use plan_pair::Source;
 // What the case's letter asks for, and the checksum after it.
 pub fn asked<'a>(letter: u8, first: &'a [u8], second: &'a [u8], chute: u64, sum: u64) -> u64 {
     match letter {
-        b'h' => heading(first),
-        b'l' => line(first, chute),
         b's' => return summed(first, sum, chute),
-        b'e' => total(sum),
+        b'e' => field(sum),
         b'p' => row(first, second, chute),
-        b'w' => written(first),
-        _ => walked(first),
+        _ => of_one(letter, first, chute),
     }
+    end();
     0
 }
 
-fn heading(text: &[u8]) {
-    testing::print(text);
+fn of_one(letter: u8, bytes: &[u8], chute: u64) {
+    match letter {
+        b'h' => testing::print(bytes),
+        b'l' => line(bytes, chute),
+        b'w' => written(bytes),
+        _ => walked(bytes),
+    }
+}
+
+fn end() {
     testing::print(b"\n");
 }
 
-fn total(sum: u64) {
-    testing::print_number(sum);
-    testing::print(b"\n");
+// A number and a blank.
+fn field(n: u64) {
+    testing::print_number(n);
+    testing::print(b" ");
 }
 
 // A refusal and a value.
-fn answer(number: u8, value: u32) {
+fn answer(number: u8, value: u64) {
     testing::print_number(number as u64);
     testing::print(b":");
-    testing::print_number(value as u64);
-    testing::print(b" ");
+    field(value);
 }
 
 fn chute(plan: &[u8], chute: u64) {
     let found = plan::destination(plan, chute);
-    answer(found.number, found.destination);
+    answer(found.number, found.destination as u64);
 }
 
 // The refusal and the number of rows, then the answers for chute 0, the first, the one that the case names and the next, the row limit, and the numbers
 // around 2^32.
 fn line(plan: &[u8], last: u64) {
     let summary = plan::read_plan(plan);
-    answer(summary.number, summary.rows);
+    answer(summary.number, summary.rows as u64);
     chute(plan, 0);
     chute(plan, 1);
     chute(plan, last);
     chute(plan, std::num::wrapping_add_u64(last, 1));
+    far_chutes(plan);
+}
+
+fn far_chutes(plan: &[u8]) {
     chute(plan, 4096);
     chute(plan, 4294967295);
     chute(plan, 4294967297);
-    testing::print(b"\n");
 }
 
 fn added(sum: u64, number: u8, value: u32) -> u64 {
@@ -70,7 +79,7 @@ fn summed(plan: &[u8], sum: u64, chutes: u64) -> u64 {
     all
 }
 
-fn source_number(source: Source) -> u32 {
+fn source_number(source: Source) -> u64 {
     match source {
         Source::Neither => 0,
         Source::Site => 1,
@@ -83,10 +92,8 @@ fn row<'a>(site: &'a [u8], house: &'a [u8], chute: u64) {
     let location = plan_pair::row_location(site, house, chute);
     let source = location.source;
     answer(location.number, source_number(source));
-    testing::print_number(location.start as u64);
-    testing::print(b" ");
-    testing::print_number(location.length as u64);
-    testing::print(b" ");
+    field(location.start as u64);
+    field(location.length as u64);
     testing::print_bytes(plan_pair::row_bytes(site, house, chute));
     testing::print_bytes(plan_pair::row_part(site, house, location));
 }
@@ -112,14 +119,11 @@ fn fill(rows: &mut [u32], bytes: &[u8]) {
 fn write_each(rows: &[u32]) {
     let needed = plan_write::plan_length(rows);
     let length = needed.length;
-    testing::print_number(needed.number as u64);
-    testing::print(b":");
-    testing::print_number(length as u64);
+    answer(needed.number, length as u64);
     write(rows, length);
     write(rows, std::num::wrapping_add_usize(length, 1));
     write(rows, if 0 < length { length - 1 } else { 0 });
     write(rows, 0);
-    testing::print(b"\n");
 }
 
 fn write(rows: &[u32], lent: usize) {
@@ -132,10 +136,7 @@ fn write_into(rows: &[u32], buffer: &mut [u8], lent: usize) {
         return;
     }
     let number = plan_write::write_plan(rows, &mut buffer[..lent]);
-    testing::print(b" ");
-    testing::print_number(number as u64);
-    testing::print(b" ");
-    testing::print_number(testing::add_bytes(0, &buffer[..]));
+    answer(number, testing::add_bytes(0, &buffer[..]));
 }
 
 // Twelve asks of a walk: each refusal and destination, and the place after it.
@@ -143,13 +144,11 @@ fn walked(plan: &[u8]) {
     let mut cursor = plan_walk::start_at(plan);
     let mut asks: u32 = 0;
     while asks < 12 {
-        testing::print_number(cursor.at as u64);
-        testing::print(b" ");
+        field(cursor.at as u64);
         let step = plan_walk::step_at(plan, cursor);
-        answer(step.number, step.destination);
+        answer(step.number, step.destination as u64);
         let next = step.next;
         cursor = next;
         asks += 1;
     }
-    testing::print(b"\n");
 }

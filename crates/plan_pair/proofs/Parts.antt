@@ -43,7 +43,8 @@ module _ (site house : List ℕ) where
       }
 
   -- a row of one of the two plans
-  found-part : (source : Source) (s : List ℕ) (r : Row) → RowIn s r → partOf site house (locationIn source r) ≡ bytesOf r s → PartAt site house (locationIn source r)
+  found-part : (source : Source) (s : List ℕ) (r : Row) → RowIn s r → partOf site house (locationIn source r) ≡ bytesOf r s
+      → PartAt site house (locationIn source r)
   found-part source s r i e =
       let long : length (partOf site house (locationIn source r)) ≡ r .end - r .start = ap length e ∙ row-length s r i in
       record {

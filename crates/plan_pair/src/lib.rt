@@ -1,4 +1,5 @@
-// A site plan and a house plan lent together (docs/RULES.md, 'Chute plan'): the bytes of a chute's row in the site plan if it has that chute, else in the house plan.
+// A site plan and a house plan lent together (docs/RULES.md, 'Chute plan'): the bytes of a chute's row in the site plan if it has that chute, else in the
+// house plan.
 use plan::PlanRead;
 use plan::Row;
 ghost use mathlib.Core.Path.{_≡_};

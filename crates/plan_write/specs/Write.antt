@@ -1,6 +1,7 @@
 -- A plan written (docs/RULES.md, 'Chute plan'): the number of rows, then each row's destination, each in the fewest groups. Rows that break the
 -- plan's rules or don't fill the lent buffer exactly are refused with 9, and nothing is written.
 use Prim.Native.Nat.{ℕ}
+use mathlib.Core.Path.{_≡_}
 use mathlib.Core.List.{List, [], _∷_, _++_}
 use mathlib.Core.Bool.{Bool, true, cond, _&&_}
 use lib.Dec.{leb, eqb}
@@ -46,3 +47,8 @@ writeRefusal l n = cond (fills l n) done malformedPlan
 -- what the lent buffer holds afterwards: the plan, or what it held before
 unfoldable pub writtenOf : List ℕ → List ℕ → List ℕ
 writtenOf l out = cond (fills l (length out)) (writtenPlan l) out
+
+-- writing these rows into a lent buffer answers r, and leaves `after` in it
+pub record WritesPlan (l out after : List ℕ) (r : ℕ) : Type 0 where
+  pub number : r ≡ writeRefusal l (length out)
+  pub buffer : after ≡ writtenOf l out

@@ -2,8 +2,7 @@
 mod put; // put.rt: the stores, once it is known that there is room
 
 ghost use mathlib.Core.Path.{_≡_};
-ghost use lib.ListN.{length};
-ghost use Rattle.plan_write.specs.Write.{noLength, lengthOf, writeRefusal, writtenOf};
+ghost use Rattle.plan_write.specs.Write.{noLength, lengthOf, WritesPlan};
 
 // How many bytes a plan takes: 0 and the length, or the refusal's number.
 #[repr(C)]
@@ -46,7 +45,7 @@ pub fn plan_length(rows: &[u32]) -> PlanLength
 
 // Writes the plan of these rows into a buffer that they fill exactly: 0, or 9 and nothing is written.
 pub fn write_plan(rows: &[u32], out: &mut [u8]) -> u8
-    ensures { λ r. ⌜ (r ≡ writeRefusal (now (rows .entry)) (length (now (out .entry)))) × (now (out .exit) ≡ writtenOf (now (rows .entry)) (now (out .entry))) ⌝ }
+    ensures { λ r. ⌜ WritesPlan (now (rows .entry)) (now (out .entry)) (now (out .exit)) r ⌝ }
 {
     let needed = plan_length(rows);
     if needed.number != answers::DONE {

@@ -7,7 +7,8 @@ use borrow.Author.Needs.{needs}
 use denote.Ref.{now}
 use lib.ListN.{drop}
 use Rattle.leb128.specs.Number.{groups, number, limit, maxNumber}
-use Rattle.leb128.proofs.Reading.{read-value, read-bad, above, above-none, turn-end, turn-last, turn-empty, turn-over, turn-more, unit-small, group-small, unit-next}
+use Rattle.leb128.proofs.Reading.{read-value, read-bad, above, above-none, turn-end, turn-last, turn-empty, turn-over, turn-more, unit-small}
+use Rattle.leb128.proofs.Reading.{group-small, unit-next}
 use Rattle.leb128.proofs.number_at.Statement.{statement}
 use Rattle.leb128.proofs.number_at.Tie as tie
 
@@ -65,7 +66,8 @@ returns-2 c =
     let l = turn w .loop in
     let ok = sym (c .before .may-end .ensures) ∙ c .if3 .taken in
     read-value _ _ _ _
-    (sym (turn-last (start (turn w) .args .padded) (l .empty) (l .low) (l .unit) (l .more) (l .next) (w .wide .result) _ (w .before .before .if1 .left) (w .wide .ensures)
+    (sym (turn-last (start (turn w) .args .padded) (l .empty) (l .low) (l .unit) (l .more) (l .next) (w .wide .result) _ (w .before .before .if1 .left)
+    (w .wide .ensures)
     (c .before .before .if2 .taken) ok) ∙ l .inv .1 .1)
 
 returns-3 : tie.Need-returns-3 Inv-loop μ-loop
@@ -74,7 +76,8 @@ returns-3 c =
     let l = turn w .loop in
     let over = sym (c .before .may-end .ensures) ∙ c .if3 .left in
     read-bad _ _
-    (sym (turn-empty (start (turn w) .args .padded) (l .empty) (l .low) (l .unit) (l .more) (l .next) (w .wide .result) _ (w .before .before .if1 .left) (w .wide .ensures)
+    (sym (turn-empty (start (turn w) .args .padded) (l .empty) (l .low) (l .unit) (l .more) (l .next) (w .wide .result) _ (w .before .before .if1 .left)
+    (w .wide .ensures)
     (c .before .before .if2 .taken) over) ∙ l .inv .1 .1)
 
 returns-4 : tie.Need-returns-4 Inv-loop μ-loop
@@ -82,7 +85,8 @@ returns-4 c =
     let w = c .before .before in
     let l = turn w .loop in
     read-bad _ _
-    (sym (turn-over (start (turn w) .args .padded) (l .empty) (l .low) (l .unit) (l .more) (l .next) (w .wide .result) _ (w .before .before .if1 .left) (w .wide .ensures)
+    (sym (turn-over (start (turn w) .args .padded) (l .empty) (l .low) (l .unit) (l .more) (l .next) (w .wide .result) _ (w .before .before .if1 .left)
+    (w .wide .ensures)
     (c .before .if2 .left) (c .if4 .taken)) ∙ l .inv .1 .1)
 
 mul-low : tie.Need-mul-low Inv-loop μ-loop
@@ -112,7 +116,8 @@ loop-again c =
       omega (arith, sums w (w .wide .result % 128) (omega arith)),
       (
         unit-next (l .unit) (l .more) (l .inv .1 .0) some,
-        sym (turn-more (a .padded) (l .empty) (l .low) (l .unit) (l .more) (l .next) (w .wide .result) _ (w .before .before .if1 .left) (w .wide .ensures) (c .before .if2 .left) some)
+        sym (turn-more (a .padded) (l .empty) (l .low) (l .unit) (l .more) (l .next) (w .wide .result) _ (w .before .before .if1 .left)
+            (w .wide .ensures) (c .before .if2 .left) some)
             ∙ l .inv .1 .1,
       ),
     )

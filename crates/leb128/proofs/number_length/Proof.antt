@@ -38,7 +38,8 @@ returns-2 : tie.Need-returns-2 Inv-loop μ-loop
 returns-2 c =
     let l = c .before .loop in
     let v = c .before .before .before .args .value in
-    let e : l .count ≡ length (writtenNumber (c .before .before .before .args .value)) = omega (arith, l .inv .0, left-last _ (l .rest) (l .count - 1) (l .inv .1) (c .loop-test .left)) in
+    let e : l .count ≡ length (writtenNumber (c .before .before .before .args .value)) = omega
+    (arith, l .inv .0, left-last _ (l .rest) (l .count - 1) (l .inv .1) (c .loop-test .left)) in
     e ∙ sym (length-is v (c .before .before .if1 .left))
 
 pub number-length-spec : {M : Type 1} → statement M

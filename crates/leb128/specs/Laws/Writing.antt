@@ -53,8 +53,10 @@ number-back padded empty (suc more) at v rest h ok = go (ltb v 128) refl (number
     high : List ℕ
     high = writtenGroups more (v / 128)
 
-    go : (b : Bool) → ltb v 128 ≡ b → ((padded || ltb 0 (v / 128)) ≡ true → groups padded padded more (at + 1) (high ++ rest) ≡ value (v / 128) (at + 1 + length high) rest)
-        → groups padded empty (suc more) at (cond b (v ∷ []) ((128 + v % 128) ∷ high) ++ rest) ≡ value v (at + length (cond b (v ∷ []) ((128 + v % 128) ∷ high))) rest
+    go : (b : Bool) → ltb v 128 ≡ b
+        → ((padded || ltb 0 (v / 128)) ≡ true → groups padded padded more (at + 1) (high ++ rest) ≡ value (v / 128) (at + 1 + length high) rest)
+        → groups padded empty (suc more) at (cond b (v ∷ []) ((128 + v % 128) ∷ high) ++ rest) ≡ value v
+        (at + length (cond b (v ∷ []) ((128 + v % 128) ∷ high))) rest
     go true e ih = rw (e, ok)
     go false e ih =
         let large : 128 ≤ v = ltb-false _ _ e in

@@ -59,7 +59,8 @@ returns c =
     let a = start (turn r) .args in
     let other = m .enum-told .given in
     c .malformed .ensures ∙ ap (Refused 9) (c .before .place-of .ensures ∙ ap placeOf (other .1))
-    ∙ sym (keeping-bad (a .chute) (l .i) (l .at) (a .count) (l .found) (now (a .plan)) (other .0 .0) (r .before .loop-test .taken) (sym (r .row-at .ensures .answer) ∙ other .1))
+    ∙ sym (keeping-bad (a .chute) (l .i) (l .at) (a .count) (l .found) (now (a .plan)) (other .0 .0) (r .before .loop-test .taken)
+    (sym (r .row-at .ensures .answer) ∙ other .1))
     ∙ l .inv .1
 
 add-i : tie.Need-add-i Inv-loop μ-loop
@@ -79,7 +80,8 @@ loop-again c =
     let a = start (turn r) .args in
     let got = w .before .before .read .given in (
       omega (arith, r .before .loop-test .taken),
-      sym (keeping-new (a .chute) (l .i) (l .at) (a .count) (l .found) (now (a .plan)) (got .0 .0) (r .before .loop-test .taken) (sym (r .row-at .ensures .answer) ∙ got .1)
+      sym (keeping-new (a .chute) (l .i) (l .at) (a .count) (l .found) (now (a .plan)) (got .0 .0) (r .before .loop-test .taken)
+          (sym (r .row-at .ensures .answer) ∙ got .1)
           (sym (w .wide .ensures) ∙ c .if1 .taken))
           ∙ l .inv .1,
     )
@@ -95,7 +97,8 @@ loop-again-2 c =
     let a = start (turn r) .args in
     let got = w .before .before .read .given in (
       omega (arith, r .before .loop-test .taken),
-      sym (keeping-old (a .chute) (l .i) (l .at) (a .count) (l .found) (now (a .plan)) (got .0 .0) (r .before .loop-test .taken) (sym (r .row-at .ensures .answer) ∙ got .1)
+      sym (keeping-old (a .chute) (l .i) (l .at) (a .count) (l .found) (now (a .plan)) (got .0 .0) (r .before .loop-test .taken)
+          (sym (r .row-at .ensures .answer) ∙ got .1)
           (λ e. c .if1 .left (w .wide .ensures ∙ e)))
           ∙ l .inv .1,
     )

@@ -15,7 +15,8 @@ abbrev start : tie.After-number-at → tie.Start
 start n = n .before .before .before
 
 -- what the plan is after its first number
-after : (n : tie.After-number-at) → let a = start n .args in rowsAfter (a .chute) (now (a .plan)) (n .number-at .result) ≡ planAnswer (a .chute) (planOf (now (a .plan)))
+after : (n : tie.After-number-at)
+    → let a = start n .args in rowsAfter (a .chute) (now (a .plan)) (n .number-at .result) ≡ planAnswer (a .chute) (planOf (now (a .plan)))
 after n =
     let a = start n .args in
     ap (rowsAfter (a .chute) (now (a .plan))) (n .number-at .ensures .answer) ∙ whole-after (a .chute) (now (a .plan)) (n .before .if1 .left)

@@ -28,13 +28,15 @@ abbrev in-site : tie.After-in-house → tie.After-in-site
 in-site h = h .before .before .before
 
 found : (h : tie.After-in-house) → let a = start (both (in-site h)) .args in
-    location (a .chute) (Rows (in-site h .in-site .given .0 .0) (in-site h .in-site .given .0 .1 .0)) (Rows (h .in-house .given .0 .0) (h .in-house .given .0 .1 .0))
+    location (a .chute) (Rows (in-site h .in-site .given .0 .0) (in-site h .in-site .given .0 .1 .0))
+    (Rows (h .in-house .given .0 .0) (h .in-house .given .0 .1 .0))
     ≡ locationOf (now (a .site)) (now (a .house)) (a .chute)
 found h =
     let s = in-site h in
     let b = both s in
     let a = start b .args in
-    location-of (now (a .site)) (now (a .house)) (a .chute) (Rows (s .in-site .given .0 .0) (s .in-site .given .0 .1 .0)) (Rows (h .in-house .given .0 .0) (h .in-house .given .0 .1 .0))
+    location-of (now (a .site)) (now (a .house)) (a .chute) (Rows (s .in-site .given .0 .0) (s .in-site .given .0 .1 .0))
+    (Rows (h .in-house .given .0 .0) (h .in-house .given .0 .1 .0))
     (sym (s .in-site .given .1) ∙ b .before .read-whole .ensures) (sym (h .in-house .given .1) ∙ b .read-whole2 .ensures)
 
 read-whole-requires : tie.Need-read-whole-requires
@@ -100,7 +102,8 @@ located-requires : tie.Need-located-requires
 located-requires c κs =
     let h = c .before in
     let s = in-site (h .before .before) in
-    let i = kept-in (now (start (both s) .args .site)) _ _ _ (sym (both s .before .read-whole .ensures) ∙ s .in-site .given .1) (sym (h .has-chute .ensures) ∙ c .if1 .taken) in
+    let i = kept-in (now (start (both s) .args .site)) _ _ _ (sym (both s .before .read-whole .ensures) ∙ s .in-site .given .1)
+    (sym (h .has-chute .ensures) ∙ c .if1 .taken) in
     omega (arith, i .some)
 
 returns-3 : tie.Need-returns-3
@@ -123,7 +126,8 @@ returns-4 : tie.Need-returns-4
 returns-4 c =
     let k = c .before .before in
     let h = k .before .before in
-    c .located2 .ensures ∙ (rw (sym (h .has-chute .ensures) ∙ k .before .if1 .left, sym (k .has-chute2 .ensures) ∙ c .before .if2 .taken)) ∙ found (h .before .before)
+    c .located2 .ensures ∙ (rw (sym (h .has-chute .ensures) ∙ k .before .if1 .left, sym (k .has-chute2 .ensures) ∙ c .before .if2 .taken)) ∙ found
+    (h .before .before)
 
 refused-requires-3 : tie.Need-refused-requires-3
 refused-requires-3 c κs = search needs
@@ -132,7 +136,8 @@ returns-5 : tie.Need-returns-5
 returns-5 c =
     let k = c .before .before in
     let h = k .before .before in
-    c .refused3 .ensures ∙ (rw (sym (h .has-chute .ensures) ∙ k .before .if1 .left, sym (k .has-chute2 .ensures) ∙ c .before .if2 .left)) ∙ found (h .before .before)
+    c .refused3 .ensures ∙ (rw (sym (h .has-chute .ensures) ∙ k .before .if1 .left, sym (k .has-chute2 .ensures) ∙ c .before .if2 .left)) ∙ found
+    (h .before .before)
 
 pub row-location-spec : {M : Type 1} → statement M
 row-location-spec =

@@ -31,7 +31,8 @@ abbrev rows-of : tie.Else1 Inv-loop μ-loop → tie.Start Inv-loop μ-loop
 rows-of e = e .before .before
 
 -- a turn's row: its length, where it has one
-known : (c : tie.Else2 Inv-loop μ-loop) → let n = c .before in let l = now (rows-of (start (turn n .before)) .args .rows) in let v = getD l (turn n .before .loop .i) 0 in
+known : (c : tie.Else2 Inv-loop μ-loop)
+    → let n = c .before in let l = now (rows-of (start (turn n .before)) .args .rows) in let v = getD l (turn n .before .loop .i) 0 in
     (v ≤ maxNumber) × ((n .number-length2 .result ≡ length (writtenNumber v)) × (n .number-length2 .result ≤ 3))
 known c =
     let n = c .before in

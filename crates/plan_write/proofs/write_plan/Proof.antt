@@ -98,7 +98,8 @@ returns-3 c =
     let p = asked e in
     let a = start p .args in
     let n = count-written w in
-    all-written (now (a .rows)) (p .plan-length .result) (p .plan-length .ensures) (e .if1 .left) (now (a .out)) _ _ (omega (arith, counted w .if2 .left)) (n .stores)
+    all-written (now (a .rows)) (p .plan-length .result) (p .plan-length .ensures) (e .if1 .left) (now (a .out)) _ _
+    (omega (arith, counted w .if2 .left)) (n .stores)
     (rw (n .place) at (r .put-rows .ensures))
 
 pub write-plan-spec : {M : Type 1} → statement M

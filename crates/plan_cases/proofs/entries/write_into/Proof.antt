@@ -18,29 +18,11 @@ slice-aggregate-write-plan c = simp length-take (omega arith)
 write-plan-requires : tie.Need-write-plan-requires
 write-plan-requires c κs = search needs
 
-slice-aggregate-print : tie.Need-slice-aggregate-print
-slice-aggregate-print c = search needs
-
-print-requires : tie.Need-print-requires
-print-requires c κs = search needs
-
-cast-print-number : tie.Need-cast-print-number
-cast-print-number c = search needs
-
-print-number-requires : tie.Need-print-number-requires
-print-number-requires c κs = search needs
-
-slice-aggregate-print-2 : tie.Need-slice-aggregate-print-2
-slice-aggregate-print-2 c = search needs
-
-print-requires-2 : tie.Need-print-requires-2
-print-requires-2 c κs = search needs
-
 add-bytes-requires : tie.Need-add-bytes-requires
 add-bytes-requires c κs = search needs
 
-print-number-requires-2 : tie.Need-print-number-requires-2
-print-number-requires-2 c κs = search needs
+answer-requires : tie.Need-answer-requires
+answer-requires c κs = search needs
 
 same-length : tie.Need-same-length
 same-length c = search needs
@@ -56,13 +38,7 @@ write-into-spec =
     slice-relend-prefix-write-plan
     slice-aggregate-write-plan
     write-plan-requires
-    slice-aggregate-print
-    print-requires
-    cast-print-number
-    print-number-requires
-    slice-aggregate-print-2
-    print-requires-2
     add-bytes-requires
-    print-number-requires-2
+    answer-requires
     same-length
     returns-2)

@@ -74,7 +74,8 @@ same-length : tie.Need-same-length Inv-loop μ-loop
 same-length c = c .before .loop .inv .1 .1 .1 .1
 
 returns : tie.Need-returns Inv-loop μ-loop
-returns c = let t = c .before in sym (rows-end (t .loop .i) (now (start t .args .rows)) (t .loop .out) (t .loop .at) (c .loop-test .left)) ∙ t .loop .inv .1 .1 .1 .0
+returns c = let t = c .before in sym (rows-end (t .loop .i) (now (start t .args .rows)) (t .loop .out) (t .loop .at) (c .loop-test .left))
+    ∙ t .loop .inv .1 .1 .1 .0
 
 pub put-rows-spec : {M : Type 1} → statement M
 put-rows-spec =
