@@ -96,7 +96,7 @@ BYTES = Kind(bytes_of, bytes_field)
 NUMBER = Kind(int, str)
 OUTPUT = Kind(str, shown)  # read as it stands, to be compared by `agrees`
 LISTS = {"LANES": Kind(lanes_of, lanes_field), "DESTINATIONS": Kind(destinations_of, destinations_field)}
-NUMBERS = {"LENGTH", "TAG-LENGTH", "NUMBER", "RUNS", "ROWS", "CHUTE", "DESTINATION", "SOURCE", "START"}
+NUMBERS = {"LENGTH", "TAG-LENGTH", "NUMBER", "RUNS", "ROWS", "CHUTE", "DESTINATION", "SOURCE", "START", "PLACE"}
 
 
 def kind(name: str, others: Kind) -> Kind:

@@ -85,10 +85,10 @@ def row_of(site, house, chute):
 def walk_of(lent):
     """A walk over some rows, and past the last where there are few; of a refused plan too."""
     state = plan.walker(lent)
-    yield written("plan_start", [lent], [state.number])
+    yield written("plan_start", [lent], [state.number, state.place])
     for _ in range(min(12, plan.read(lent)[1]) + 2):
         number, found, state = plan.next_row(state)
-        yield written("plan_step", [], [number, found])
+        yield written("plan_step", [], [number, found, state.place])
 
 
 def read(rng):

@@ -19,6 +19,7 @@ import hailfeather  # noqa: E402  (the path above leads to it)
 from hailfeather import Generator, Refusal, Session, plan  # noqa: E402
 
 SOURCES = {"site": 1, "house": 2}
+UNSEEN = object()  # a field of the answer that the module keeps to itself
 
 
 class LeftOut(Exception):
@@ -112,11 +113,11 @@ class Reader:
     def plan_start(self, given: Any) -> Tuple:
         self.walk = None
         self.walk = plan.walk(given.plan)
-        return (0,)
+        return 0, UNSEEN
 
     def plan_step(self, given: Any) -> Tuple:
         destination = next(started(self.walk), None)
-        return (10, 0) if destination is None else (0, destination)
+        return (10, 0, UNSEEN) if destination is None else (0, destination, UNSEEN)
 
     def answer(self, call: Call) -> Tuple:
         """The module's answer; on a refusal 0 and no bytes for all but the number and the generator's key."""
@@ -146,7 +147,8 @@ def alike(call: Call, found: Tuple) -> bool:
     _, form = FORMS[call.entry]
     if len(found) != len(call.answer):
         return False
-    return all(agrees(field, value) if kind is OUTPUT else field == value for kind, field, value in zip(form.kinds, call.answer, found))
+    seen = [fields for fields in zip(form.kinds, call.answer, found) if fields[2] is not UNSEEN]
+    return all(agrees(field, value) if kind is OUTPUT else field == value for kind, field, value in seen)
 
 
 def main(path: str) -> int:

@@ -23,7 +23,7 @@ static const struct {
     {"draw", 7, replay_generator},         {"plan_read", 4, replay_plan},
     {"plan_destination", 5, replay_plan},  {"plan_row", 8, replay_plan},
     {"plan_length", 4, replay_plan},       {"plan_write", 5, replay_plan},
-    {"plan_start", 3, replay_plan},        {"plan_step", 3, replay_plan},
+    {"plan_start", 4, replay_plan},        {"plan_step", 4, replay_plan},
 };
 enum { ENTRIES = sizeof entries / sizeof entries[0] };
 static long counts[ENTRIES];

@@ -35,13 +35,13 @@ static bool start(char *const *f, const buffer *plan)
     give_back(&walked);
     walked = lend_bytes(f[1]);
     walk = hf_plan_start(walked.bytes, walked.length);
-    return walk.number == number_of(f[2]) && still(&walked, f[1]);
+    return walk.number == number_of(f[2]) && walk.at == number_of(f[3]) && still(&walked, f[1]);
 }
 
 static bool step(char *const *f)
 {
     hf_walk found = hf_plan_step(walked.bytes, walked.length, walk);
-    bool same = found.number == number_of(f[1]) && found.destination == number_of(f[2]) && (found.number == 0 || found.next == walk.at);
+    bool same = found.number == number_of(f[1]) && found.destination == number_of(f[2]) && found.next == number_of(f[3]);
     walk.at = found.next;
     return same && edges_stand(&walked);
 }

@@ -11,4 +11,4 @@ sourceNumber Site = 1
 sourceNumber House = 2
 
 abbrev pub exportedLocation : RowLocation → CRow
-exportedLocation l = record { start = l .start; length = l .length; source = sourceNumber (l .source); number = l .refusal }
+exportedLocation l = record { start = l .start; length = l .length; source = sourceNumber (l .source); number = l .number }

@@ -1,9 +1,13 @@
-// The row of a chute in two plans as C asks for it (docs/RULES.md, 'Chute plan'): an offset, a length and the number of the plan, since no reference can be
-// handed to C. The crate `hailfeather` gives the function its name in C; the other questions on plans need no conversion.
+// The row of a chute in two plans and an ask of a walk as C has them (docs/RULES.md, 'Chute plan'): an offset, a length and the number of the plan, since no
+// reference can be handed to C; and the place after an ask as a number. The crate `hailfeather` gives the functions their names in C; the other questions on plans
+// need no conversion.
 ghost use mathlib.Core.Path.{_≡_};
 ghost use Rattle.plan_pair.specs.Pair.{locationOf};
+ghost use Rattle.plan_walk.specs.Walk.{walkStep};
 ghost use Rattle.c_plan.specs.Row.{sourceNumber, exportedLocation};
+ghost use Rattle.c_plan.specs.Walk.{exportedAnswer};
 use plan_pair::Source;
+use plan_walk::Cursor;
 
 #[repr(C)]
 pub struct CRow {
@@ -24,7 +28,7 @@ fn source_number(source: Source) -> u8
     }
 }
 
-pub fn row(site: &[u8], house: &[u8], chute: u32) -> CRow
+pub fn row(site: &[u8], house: &[u8], chute: u64) -> CRow
     ensures { λ r. ⌜ r ≡ exportedLocation (locationOf (now (site .entry)) (now (house .entry)) chute) ⌝ }
 {
     let location = plan_pair::row_location(site, house, chute);
@@ -34,6 +38,24 @@ pub fn row(site: &[u8], house: &[u8], chute: u32) -> CRow
         start: location.start,
         length: location.length,
         source,
-        number: location.refusal,
+        number: location.number,
+    }
+}
+
+#[repr(C)]
+pub struct CWalk {
+    pub next: usize,
+    pub destination: u32,
+    pub number: u8,
+}
+
+pub fn step(plan: &[u8], walk: Cursor) -> CWalk
+    ensures { λ r. ⌜ r ≡ exportedAnswer (walkStep (now (plan .entry)) walk) ⌝ }
+{
+    let answer = plan_walk::step_at(plan, walk);
+    CWalk {
+        next: answer.next.at,
+        destination: answer.destination,
+        number: answer.number,
     }
 }

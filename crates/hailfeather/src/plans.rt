@@ -1,16 +1,16 @@
 // The chute plan: reading, looking up, the row of two plans as an offset and a length, writing, and walking.
 ghost use mathlib.Core.Path.{_≡_};
-ghost use lib.ListN.{length};
 ghost use Rattle.plan.specs.Answers.{summaryOf, lookupOf};
 ghost use Rattle.plan_pair.specs.Pair.{locationOf};
-ghost use Rattle.plan_write.specs.Write.{lengthOf, writeRefusal, writtenOf};
-ghost use Rattle.plan_walk.specs.Walk.{startOf, stepOf};
+ghost use Rattle.plan_write.specs.Write.{lengthOf, WritesPlan};
+ghost use Rattle.plan_walk.specs.Walk.{walkStart, walkStep};
 ghost use Rattle.c_plan.specs.Row.{exportedLocation};
+ghost use Rattle.c_plan.specs.Walk.{exportedAnswer};
 use c_plan::CRow;
+use c_plan::CWalk;
 use plan::Lookup;
 use plan::PlanSummary;
 use plan_walk::Cursor;
-use plan_walk::Step;
 use plan_write::PlanLength;
 
 #[no_mangle]
@@ -21,14 +21,14 @@ pub extern "C" fn hf_plan_read(plan: &[u8]) -> PlanSummary
 }
 
 #[no_mangle]
-pub extern "C" fn hf_plan_destination(plan: &[u8], chute: u32) -> Lookup
+pub extern "C" fn hf_plan_destination(plan: &[u8], chute: u64) -> Lookup
     ensures { λ r. ⌜ r ≡ lookupOf (now (plan .entry)) chute ⌝ }
 {
     plan::destination(plan, chute)
 }
 
 #[no_mangle]
-pub extern "C" fn hf_plan_row(site: &[u8], house: &[u8], chute: u32) -> CRow
+pub extern "C" fn hf_plan_row(site: &[u8], house: &[u8], chute: u64) -> CRow
     ensures { λ r. ⌜ r ≡ exportedLocation (locationOf (now (site .entry)) (now (house .entry)) chute) ⌝ }
 {
     c_plan::row(site, house, chute)
@@ -43,22 +43,21 @@ pub extern "C" fn hf_plan_length(rows: &[u32]) -> PlanLength
 
 #[no_mangle]
 pub extern "C" fn hf_plan_write(rows: &[u32], out: &mut [u8]) -> u8
-    ensures { λ r. ⌜ (r ≡ writeRefusal (now (rows .entry)) (length (now (out .entry))))
-        × (now (out .exit) ≡ writtenOf (now (rows .entry)) (now (out .entry))) ⌝ }
+    ensures { λ r. ⌜ WritesPlan (now (rows .entry)) (now (out .entry)) (now (out .exit)) r ⌝ }
 {
     plan_write::write_plan(rows, out)
 }
 
 #[no_mangle]
 pub extern "C" fn hf_plan_start(plan: &[u8]) -> Cursor
-    ensures { λ r. ⌜ r ≡ startOf (now (plan .entry)) ⌝ }
+    ensures { λ r. ⌜ r ≡ walkStart (now (plan .entry)) ⌝ }
 {
     plan_walk::start_at(plan)
 }
 
 #[no_mangle]
-pub extern "C" fn hf_plan_step(plan: &[u8], at: usize, number: u8) -> Step
-    ensures { λ r. ⌜ r ≡ stepOf (now (plan .entry)) at number ⌝ }
+pub extern "C" fn hf_plan_step(plan: &[u8], walk: Cursor) -> CWalk
+    ensures { λ r. ⌜ r ≡ exportedAnswer (walkStep (now (plan .entry)) walk) ⌝ }
 {
-    plan_walk::step_at(plan, at, number)
+    c_plan::step(plan, walk)
 }

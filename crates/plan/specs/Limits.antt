@@ -1,5 +1,7 @@
--- The limits of a plan (document 01, 'The chute plan' and 'Numbers a caller gets back').
+-- The limits of a plan (docs/RULES.md, 'Chute plan' and 'Numbers').
 use Prim.Native.Nat.{ℕ}
+use mathlib.Core.Bool.{Bool, true}
+use Rattle.leb128.specs.Number.{maxNumber}
 
 -- bytes of a plan to be read
 abbrev pub maxPlan : ℕ
@@ -10,4 +12,8 @@ maxRows = 4096
 
 -- the largest number of three groups
 abbrev pub maxDestination : ℕ
-maxDestination = 2097151
+maxDestination = maxNumber
+
+-- whether a number in more groups than it needs is read
+abbrev pub padded : Bool
+padded = true

@@ -1,17 +1,22 @@
--- A plan (document 01, 'The chute plan'): the number of rows, at most 4,096, then each row's destination, then nothing more. Reading a plan of
+-- A plan (docs/RULES.md, 'Chute plan'): the number of rows, at most 4,096, then each row's destination, then nothing more. Reading a plan of
 -- more than 65,536 bytes is refused with 5, a malformed one with 9.
 use Prim.Native.Nat.{ℕ, zero, suc}
 use mathlib.Core.List.{List, [], _∷_}
 use mathlib.Core.Bool.{cond}
 use lib.Dec.{ltb, leb}
 use lib.ListN.{length, getD}
-use Rattle.plan.specs.Limits.{maxPlan, maxRows}
-use Rattle.plan.specs.Number.{Parsed, value, bad, number}
+use Rattle.answers.specs.Numbers.{inputTooLong, malformedPlan}
+use Rattle.leb128.specs.Number.{Parsed, value, bad, number}
+use Rattle.plan.specs.Limits.{maxPlan, maxRows, padded}
 use Rattle.plan.specs.declared.Row.{Row}
 use Rattle.plan.specs.declared.RowRead.{RowRead}
 use Rattle.plan.specs.declared.RowRead.the-variants.{Found, NotRow}
 use Rattle.plan.specs.declared.PlanRead.{PlanRead}
 use Rattle.plan.specs.declared.PlanRead.the-variants.{Rows, Refused}
+
+-- a number of a plan, at a place
+abbrev pub planNumber : ℕ → List ℕ → Parsed
+planNumber at s = number padded at s
 
 abbrev pub row : ℕ → ℕ → ℕ → Row
 row d a e = record { destination = d; start = a; end = e }
@@ -31,7 +36,7 @@ pub data Plan : Type 0 where
   refused : ℕ → ℕ → Plan
 
 abbrev pub malformed : ℕ → Plan
-malformed place = refused 9 place
+malformed place = refused malformedPlan place
 
 abbrev pub consRow : Row → Plan → Plan
 consRow r (rows l) = rows (r ∷ l)
@@ -46,13 +51,13 @@ afterNumber (bad place) go = malformed place
 unfoldable pub rowsFrom : ℕ → ℕ → List ℕ → Plan
 rowsFrom zero at [] = rows []
 rowsFrom zero at (b ∷ rest) = malformed at
-rowsFrom (suc n) at s = afterNumber (number at s) (λ v next rest. consRow (row v at next) (rowsFrom n next rest))
+rowsFrom (suc n) at s = afterNumber (planNumber at s) (λ v next rest. consRow (row v at next) (rowsFrom n next rest))
 
 abbrev pub planIn : List ℕ → Plan
-planIn s = afterNumber (number 0 s) (λ count next rest. cond (leb count maxRows) (rowsFrom count next rest) (malformed 0))
+planIn s = afterNumber (planNumber 0 s) (λ count next rest. cond (leb count maxRows) (rowsFrom count next rest) (malformed 0))
 
 unfoldable pub planOf : List ℕ → Plan
-planOf s = cond (ltb maxPlan (length s)) (refused 5 0) (planIn s)
+planOf s = cond (ltb maxPlan (length s)) (refused inputTooLong 0) (planIn s)
 
 -- the row of a chute, which count from 1: all 0 where there is none
 abbrev pub noRow : Row

@@ -1,22 +1,19 @@
-// The chute plan, document 01: the rows of a plan, reading a plan whole, the destination of a chute.
-mod number; // number.rt: seven-bit numbers
-
-pub use number::Number;
-pub use number::number_at;
+// The chute plan (docs/RULES.md, 'Chute plan'): the rows of a plan, reading a plan whole, the destination of a chute.
 ghost use mathlib.Core.Path.{_≡_};
-ghost use Prim.Native.Nat.{_≤_};
 ghost use lib.ListN.{drop};
-ghost use Rattle.plan.specs.Limits.{maxRows};
-ghost use Rattle.plan.specs.Number.{number};
-ghost use Rattle.plan.specs.Plan.{rowAnswer, placeOf, rowsFrom, planOf, planAnswer};
-ghost use Rattle.plan.specs.Answers.{hasChute, summaryOf, lookupOf};
+ghost use Rattle.plan.specs.Plan.{planNumber, placeOf, rowsFrom, planOf, planAnswer};
+ghost use Rattle.plan.specs.Answers.{ReadsRow, hasChute, noDestination, summaryOf, lookupOf};
+use leb128::Number;
 
-// The limits of document 01, as specs/Limits.antt has them.
+// The limits, as specs/Limits.antt has them.
 pub const MAX_PLAN: usize = 65536;
 
 pub const MAX_ROWS: u32 = 4096;
 
-pub const MAX_DESTINATION: u32 = 2097151;
+pub const MAX_DESTINATION: u32 = leb128::MAX_NUMBER;
+
+// Whether a number in more groups than it needs is read.
+pub const PADDED: bool = true;
 
 // A row: its destination, and where its bytes start and end in the plan.
 pub struct Row {
@@ -33,9 +30,9 @@ pub enum RowRead {
 
 // The row reader: the row at a place of a plan.
 pub fn row_at(plan: &[u8], at: usize) -> RowRead
-    ensures { λ r. ⌜ r ≡ rowAnswer at (number at (drop at (now (plan .entry)))) ⌝ }
+    ensures { λ r. ⌜ ReadsRow at (planNumber at (drop at (now (plan .entry)))) r ⌝ }
 {
-    match number_at(plan, at) {
+    match leb128::number_at(plan, at, PADDED) {
         Number::Value { value, next } => RowRead::Found(Row {
             destination: value,
             start: at,
@@ -55,22 +52,30 @@ fn place_of(read: RowRead) -> usize
     }
 }
 
-// What reading a whole plan finds: the number of rows and the row of one chute (all 0 where there is none); or the refusal,
-// 5 or 9, and the place at which the plan is malformed (0 with 5).
+// What reading a whole plan finds: the number of rows and the row of one chute (all 0 where there is none); or the refusal's number, 5 or 9, and the place
+// at which the plan is malformed (0 with 5).
 pub enum PlanRead {
     Rows { count: u32, row: Row },
-    Refused { refusal: u8, place: usize },
+    Refused { number: u8, place: usize },
 }
 
 fn malformed(place: usize) -> PlanRead
     ensures { λ r. ⌜ r ≡ PlanRead.Refused 9 place ⌝ }
 {
-    PlanRead::Refused { refusal: 9, place }
+    PlanRead::Refused {
+        number: answers::MALFORMED_PLAN,
+        place,
+    }
+}
+
+fn wide(x: u32) -> u64
+    ensures { λ r. ⌜ r ≡ x ⌝ }
+{
+    x as u64
 }
 
 // Reads the rows from a place on, `count` of them and then nothing more. The first bad row ends the reading.
-fn read_rows(plan: &[u8], first: usize, count: u32, chute: u32) -> PlanRead
-    requires { ⌜ count ≤ maxRows ⌝ }
+fn read_rows(plan: &[u8], first: usize, count: u32, chute: u64) -> PlanRead
     ensures { λ r. ⌜ r ≡ planAnswer chute (rowsFrom count first (drop first (now (plan .entry)))) ⌝ }
 {
     let mut found = Row {
@@ -87,7 +92,7 @@ fn read_rows(plan: &[u8], first: usize, count: u32, chute: u32) -> PlanRead
         };
         i += 1;
         at = row.end;
-        if i == chute {
+        if wide(i) == chute {
             found = row;
         }
     }
@@ -98,16 +103,16 @@ fn read_rows(plan: &[u8], first: usize, count: u32, chute: u32) -> PlanRead
 }
 
 // Reads a plan whole, in one pass, and keeps the row of one chute.
-pub fn read_whole(plan: &[u8], chute: u32) -> PlanRead
+pub fn read_whole(plan: &[u8], chute: u64) -> PlanRead
     ensures { λ r. ⌜ r ≡ planAnswer chute (planOf (now (plan .entry))) ⌝ }
 {
     if MAX_PLAN < plan.len() {
         return PlanRead::Refused {
-            refusal: 5,
+            number: answers::INPUT_TOO_LONG,
             place: 0,
         };
     }
-    match number_at(plan, 0) {
+    match leb128::number_at(plan, 0, PADDED) {
         Number::Value { value, next } => {
             if MAX_ROWS < value {
                 return malformed(0);
@@ -118,11 +123,11 @@ pub fn read_whole(plan: &[u8], chute: u32) -> PlanRead
     }
 }
 
-// The answer of reading a plan: the refusal, or 0 and the number of rows.
+// The answer of reading a plan: 0 and the number of rows, or the refusal's number.
 #[repr(C)]
 pub struct PlanSummary {
     pub rows: u32,
-    pub refusal: u8,
+    pub number: u8,
 }
 
 pub fn read_plan(plan: &[u8]) -> PlanSummary
@@ -130,49 +135,52 @@ pub fn read_plan(plan: &[u8]) -> PlanSummary
 {
     match read_whole(plan, 0) {
         PlanRead::Rows { count, row: _ } => PlanSummary {
-            refusal: 0,
+            number: answers::DONE,
             rows: count,
         },
-        PlanRead::Refused { refusal, place: _ } => PlanSummary { refusal, rows: 0 },
+        PlanRead::Refused { number, place: _ } => PlanSummary { number, rows: 0 },
     }
 }
 
 // Whether a plan of `count` rows has a chute: chutes count from 1.
-pub fn has_chute(count: u32, chute: u32) -> bool
+pub fn has_chute(count: u32, chute: u64) -> bool
     ensures { λ r. ⌜ r ≡ hasChute count chute ⌝ }
 {
     if chute == 0 {
         return false;
     }
-    chute <= count
+    chute <= wide(count)
 }
 
-// The answer for one chute: the refusal, or 0 and the destination.
+// The answer for one chute: 0 and the destination, or the refusal's number.
 #[repr(C)]
 pub struct Lookup {
     pub destination: u32,
-    pub refusal: u8,
+    pub number: u8,
 }
 
-pub fn destination(plan: &[u8], chute: u32) -> Lookup
+fn no_destination(number: u8) -> Lookup
+    ensures { λ r. ⌜ r ≡ noDestination number ⌝ }
+{
+    Lookup {
+        number,
+        destination: 0,
+    }
+}
+
+pub fn destination(plan: &[u8], chute: u64) -> Lookup
     ensures { λ r. ⌜ r ≡ lookupOf (now (plan .entry)) chute ⌝ }
 {
     match read_whole(plan, chute) {
         PlanRead::Rows { count, row } => {
             if has_chute(count, chute) {
                 return Lookup {
-                    refusal: 0,
+                    number: answers::DONE,
                     destination: row.destination,
                 };
             }
-            Lookup {
-                refusal: 10,
-                destination: 0,
-            }
+            no_destination(answers::NO_SUCH_CHUTE)
         }
-        PlanRead::Refused { refusal, place: _ } => Lookup {
-            refusal,
-            destination: 0,
-        },
+        PlanRead::Refused { number, place: _ } => no_destination(number),
     }
 }

@@ -1,198 +1,78 @@
-// Document 01's plans and many damaged ones, run through every plan entry. What it must write is worked out by reference/plan_cases.py.
-mod damage;
-mod others;
-mod show;
+// Cases of every plan entry, read from standard input. What stands there, and what must be written for it, is worked out by reference/plan_cases.py.
+//
+// First stands how many cases there are. A case is a letter, four words of four bytes, lowest byte first, and then bytes: as many as the first word says, and
+// then as many as the second says. From 2^24 on, that many zeros less 2^24 are meant, and none stand there. The other two words are a chute, low and high.
+mod entries; // entries.rt: the entries' answers
+
+use libc::STDIN_FILENO;
+
+// From here on a number of bytes means zeros.
+const ZEROS: u32 = 16777216;
+
+// A letter and four words.
+const HEAD: usize = 17;
 
 fn main() {
-    examples();
-    sample();
-    padded();
-    fourth_group();
-    after_the_last_row();
-    many_rows();
-    long();
-    pairs();
-    written();
-    walked();
+    let mut input = [0u8; 262144];
+    let n = io::read_full(STDIN_FILENO, &mut input);
+    run(testing::first(&input, n));
 }
 
-fn examples() {
-    show::heading(b"examples");
-    show::line(b"\x03\x07\xAC\x02\x00");
-    show::line(b"\x00");
-    show::line(b"\x01\x80\x80\x80\x00");
-    show::line(b"");
-}
-
-// A plan with the edges of each number of groups.
-fn sample() {
-    let mut plan = [
-        8u8,
-        0,
-        1,
-        127,
-        128,
-        1,
-        172,
-        2,
-        255,
-        127,
-        128,
-        128,
-        1,
-        255,
-        255,
-        127,
-    ];
-    show::heading(b"sample");
-    show::line(&plan);
-    show::heading(b"truncated");
-    damage::truncated(&plan);
-    show::heading(b"flipped");
-    damage::flipped(&mut plan);
-    show::heading(b"every byte alone");
-    damage::one_byte();
-}
-
-fn padded() {
-    show::heading(b"padded");
-    show::line(b"\x01\x87\x00");
-    show::line(b"\x01\x87\x80\x00");
-    show::line(b"\x01\x87\x80\x80");
-    show::line(b"\x01\xFF\xFF\x7F");
-    show::line(b"\x01\x80\x80\x00");
-    padded_counts();
-}
-
-fn padded_counts() {
-    show::line(b"\x81\x00\x07");
-    show::line(b"\x81\x80\x00\x07");
-    show::line(b"\x80\x00");
-    show::line(b"\x80\x80\x00");
-}
-
-fn fourth_group() {
-    show::heading(b"fourth group");
-    show::line(b"\x01\x80\x80\x80\x00");
-    show::line(b"\x01\xFF\xFF\xFF\x7F");
-    show::line(b"\x80\x80\x80\x00");
-    show::line(b"\x81\x80\x80\x00\x07");
-    show::line(b"\x01\xFF\xFF\x80");
-    show::line(b"\x01\xFF\xFF\xFF");
-}
-
-fn after_the_last_row() {
-    show::heading(b"after the last row");
-    show::line(b"\x00\x00");
-    show::line(b"\x00\x00\x00");
-    show::line(b"\x01\x07\x00");
-    show::line(b"\x01\xAC\x02\x80");
-    show::line(b"\x03\x07\x00\xAC\x02\x00");
-    show::line(b"\x03\x07\xAC\x02\x00\x00");
-    show::line(b"\x03\x07\xAC\x02\x00\xFF");
-}
-
-fn many_rows() {
-    show::heading(b"many rows");
-    let mut plan = [0u8; 4100];
-    damage::many_rows(&mut plan);
-}
-
-fn long() {
-    show::heading(b"long");
+// The cases one after another, with the checksum of those that are summed up.
+fn run(input: &[u8]) {
     let zeros = [0u8; 65600];
-    show::line(&zeros[..65535]);
-    show::line(&zeros[..65536]);
-    show::line(&zeros[..65537]);
-    show::line(&zeros);
+    let cases = testing::word(input);
+    let mut at: usize = 4;
+    let mut sum: u64 = 0;
+    let mut i: u32 = 0;
+    while i < cases {
+        let case = testing::rest(input, at);
+        sum = answered(case, &zeros, sum);
+        at = std::num::wrapping_add_usize(at, size(case));
+        i += 1;
+    }
 }
 
-fn pairs() {
-    show::heading(b"pairs");
-    let site = b"\x02\xAC\x02\x07";
-    let house = b"\x04\x80\x01\x01\x80\x80\x01\x09";
-    pairs_of(site, house, b"\x00", b"\x01\x80\x80");
+// How many bytes stand there for this number of them.
+fn standing(n: u32) -> usize {
+    if n < ZEROS { n as usize } else { 0 }
 }
 
-fn pairs_of<'a>(site: &'a [u8], house: &'a [u8], none: &'a [u8], bad: &'a [u8]) {
-    others::pair(site, house);
-    others::pair(house, site);
-    pairs_with_none(site, house, none);
-    pairs_refused(site, bad);
-    pairs_long(site, bad);
-    others::pair(&site[..0], site);
-    others::pair(site, &site[..0]);
+fn size(case: &[u8]) -> usize {
+    let first = standing(testing::word(testing::rest(case, 1)));
+    let second = standing(testing::word(testing::rest(case, 5)));
+    std::num::wrapping_add_usize(HEAD, std::num::wrapping_add_usize(first, second))
 }
 
-fn pairs_long<'a>(site: &'a [u8], bad: &'a [u8]) {
-    let long = [0u8; 65537];
-    pairs_refused_5(site, bad, &long);
+// This number of the bytes that stand there, or of zeros.
+fn lent<'a>(bytes: &'a [u8], zeros: &'a [u8], n: u32) -> &'a [u8] {
+    if n < ZEROS {
+        return testing::first(bytes, n as usize);
+    }
+    testing::first(zeros, (n - ZEROS) as usize)
 }
 
-fn pairs_with_none<'a>(site: &'a [u8], house: &'a [u8], none: &'a [u8]) {
-    others::pair(site, none);
-    others::pair(none, house);
-    others::pair(none, none);
+fn chute_of(case: &[u8]) -> u64 {
+    let low = testing::word(testing::rest(case, 9));
+    let high = testing::word(testing::rest(case, 13));
+    std::num::wrapping_add_u64(low as u64, (high as u64) << 32)
 }
 
-fn pairs_refused<'a>(site: &'a [u8], bad: &'a [u8]) {
-    others::pair(site, bad);
-    others::pair(bad, site);
-    others::pair(bad, bad);
-}
-
-fn pairs_refused_5<'a>(site: &'a [u8], bad: &'a [u8], long: &'a [u8]) {
-    others::pair(site, long);
-    others::pair(long, site);
-    others::pair(long, bad);
-    others::pair(bad, long);
-    others::pair(long, long);
-}
-
-fn written() {
-    show::heading(b"written");
-    few_written();
-    let largest = [2097151u32; 1];
-    others::write(&largest);
-    let too_large = [2097152u32; 1];
-    others::write(&too_large);
-    let far_too_large = [7u32, 4294967295, 0];
-    others::write(&far_too_large);
-    let widths = [127u32, 128, 16383, 16384];
-    others::write(&widths);
-    many_written();
-}
-
-fn few_written() {
-    let one = [0u32; 1];
-    others::write(&one[..0]);
-    others::write(&one);
-    let edges = [0u32, 1, 127, 128, 300, 16383, 16384, 2097151];
-    others::write(&edges);
-    let above = [7u32, 300, 0];
-    others::write(&above);
-}
-
-fn many_written() {
-    let mut rows = [0u32; 4097];
-    others::write_many(&mut rows);
-    let widest = [2097151u32; 4096];
-    others::write(&widest);
-}
-
-fn walked() {
-    show::heading(b"walked");
-    others::walk(b"\x03\x07\xAC\x02\x00");
-    others::walk(b"\x00");
-    others::walk(b"\x08\x00\x01\x7F\x80\x01\xAC\x02\xFF\x7F\x80\x80\x01\xFF\xFF\x7F");
-    others::walk(b"\x01\x87\x00");
-    walked_refused();
-}
-
-fn walked_refused() {
-    others::walk(b"\x01\x80\x80\x80\x00");
-    others::walk(b"");
-    let long = [0u8; 65537];
-    others::walk(&long);
-    others::walk(b"\x00\x00");
+// A case's answer, and the checksum after it.
+fn answered<'a>(case: &'a [u8], zeros: &'a [u8], sum: u64) -> u64 {
+    let n = testing::word(testing::rest(case, 1));
+    let body = testing::rest(case, HEAD);
+    let first = lent(body, zeros, n);
+    let second = lent(
+        testing::rest(body, standing(n)),
+        zeros,
+        testing::word(testing::rest(case, 5)),
+    );
+    entries::asked(
+        testing::byte_at(case, 0),
+        first,
+        second,
+        chute_of(case),
+        sum,
+    )
 }

@@ -1,12 +1,13 @@
--- A site plan and a house plan lent together (document 01, 'The chute plan', questions): the row of a chute in the site plan if it has that chute,
+-- A site plan and a house plan lent together (docs/RULES.md, 'Chute plan'): the row of a chute in the site plan if it has that chute,
 -- else in the house plan, as a part of the plan it came from. Each answer is set out by the cases of what reading the two plans whole finds.
 use Prim.Native.Nat.{ℕ, _+_, _-_}
 use mathlib.Core.Path.{_≡_}
 use mathlib.Core.List.{List, []}
 use mathlib.Core.Bool.{Bool, cond, _&&_}
-use lib.Dec.{leb}
+use lib.Dec.{leb, eqb}
 use lib.ListN.{length, take, drop}
 use denote.Ref.{RefT, now}
+use Rattle.answers.specs.Numbers.{done, noSuchChute}
 use Rattle.plan.specs.Plan.{planOf, planAnswer}
 use Rattle.plan.specs.Answers.{hasChute}
 use Rattle.plan.specs.declared.Row.{Row}
@@ -17,17 +18,25 @@ use Rattle.plan_pair.specs.declared.Source.the-variants.{Neither, Site, 
 use Rattle.plan_pair.specs.declared.RowLocation.{RowLocation}
 
 abbrev pub noLocation : ℕ → RowLocation
-noLocation n = record { refusal = n; source = Neither; start = 0; length = 0 }
+noLocation n = record { number = n; source = Neither; start = 0; length = 0 }
 
 abbrev pub locationIn : Source → Row → RowLocation
-locationIn source r = record { refusal = 0; source = source; start = r .start; length = r .end - r .start }
+locationIn source r = record { number = done; source = source; start = r .start; length = r .end - r .start }
 
--- the plans' refusals come before the chute's, and of two the smaller is given
+-- the refusal of a plan, 0 for none; of a refusal and another, or none, the smaller
+abbrev pub refusalOf : PlanRead → ℕ
+refusalOf (Rows n r) = done
+refusalOf (Refused n place) = n
+
+abbrev pub smallerOf : ℕ → ℕ → ℕ
+smallerOf a b = cond (eqb b done) a (cond (leb a b) a b)
+
+-- the plans' refusals come before the chute's
 abbrev pub location : ℕ → PlanRead → PlanRead → RowLocation
-location chute (Rows n r) (Rows m q) = cond (hasChute n chute) (locationIn Site r) (cond (hasChute m chute) (locationIn House q) (noLocation 10))
+location chute (Rows n r) (Rows m q) =
+    cond (hasChute n chute) (locationIn Site r) (cond (hasChute m chute) (locationIn House q) (noLocation noSuchChute))
 location chute (Rows n r) (Refused b q) = noLocation b
-location chute (Refused a p) (Rows m q) = noLocation a
-location chute (Refused a p) (Refused b q) = noLocation (cond (leb a b) a b)
+location chute (Refused a p) q = noLocation (smallerOf a (refusalOf q))
 
 unfoldable pub locationOf : List ℕ → List ℕ → ℕ → RowLocation
 locationOf site house chute = location chute (planAnswer chute (planOf site)) (planAnswer chute (planOf house))

@@ -8,17 +8,17 @@ use lib.ListN.{length, getD}
 use lib.Dec.{leb}
 use borrow.Author.Tests.{le-leb, lt-leb}
 use Rattle.plan.specs.Plan.{Plan, rows, planOf, noRow}
-use Rattle.plan.specs.PlanLaws.{RowIn, RowsIn, bytesOf, plan-in}
+use Rattle.plan.specs.Laws.Rows.{RowIn, bytesOf, plan-in}
 use Rattle.plan.specs.declared.Row.{Row}
 use Rattle.plan_pair.specs.Pair.{noLocation, locationIn, locationOf, partFrom, partOf, rowBytesOf}
 use Rattle.plan_pair.specs.declared.Source.the-variants.{Neither, Site, House}
 use Rattle.plan_pair.specs.declared.RowLocation.{RowLocation}
 
 -- a row that lies inside a plan: the part at its location is its bytes
-part-row : (s : List ℕ) (r : Row) → RowIn s r → partFrom s (r .start) (r .end - r .start) ≡ bytesOf r s
+pub part-row : (s : List ℕ) (r : Row) → RowIn s r → partFrom s (r .start) (r .end - r .start) ≡ bytesOf r s
 part-row s r i =
-    let a : r .start ≤ length s = omega (arith, i .ordered, i .inside) in
-    let b : r .end - r .start ≤ length s - r .start = omega (arith, i .ordered, i .inside) in
+    let a : r .start ≤ length s = omega (arith, i .some, i .inside) in
+    let b : r .end - r .start ≤ length s - r .start = omega (arith, i .some, i .inside) in
     rw (le-leb _ _ a, le-leb _ _ b)
 
 row-of : (s : List ℕ) (l : List Row) (c : ℕ) → planOf s ≡ rows l → c < length l → RowIn s (getD l c noRow)
@@ -60,8 +60,3 @@ module _ (site house : List ℕ) (l k : List Row) (e : planOf site ≡ rows l) (
     pub house-bytes : length l ≤ c → c < length k → RowIn house (getD k c noRow) × (rowBytesOf site house (suc c) ≡ bytesOf (getD k c noRow) house)
     unfolding rowBytesOf
     house-bytes g h = let i = row-of house k c f h in (i, rw (house-row g h) (part-row house (getD k c noRow) i))
-
--- a refusal returns the empty part
-pub refused-empty : (site house : List ℕ) (chute n : ℕ) → locationOf site house chute ≡ noLocation n → rowBytesOf site house chute ≡ []
-unfolding rowBytesOf
-refused-empty site house chute n e = rw e

@@ -1,4 +1,4 @@
-// The report program of document 01: reads a plan on standard input and writes the number of rows and each row, or the refusal.
+// The report program (docs/RULES.md, 'Chute plan'): reads a plan on standard input and writes the number of rows and each row, or the refusal.
 use libc::STDIN_FILENO;
 use libc::STDOUT_FILENO;
 
@@ -9,44 +9,44 @@ fn main() {
     report(&buffer[..n]);
 }
 
-fn number(n: u32) {
+fn decimal(n: u32) {
     io::print_decimal(STDOUT_FILENO, n as u64);
 }
 
-fn refused_line(refusal: u8) {
+fn refused_line(number: u8) {
     io::write_all(STDOUT_FILENO, b"refused ");
-    number(refusal as u32);
+    decimal(number as u32);
     io::write_all(STDOUT_FILENO, b"\n");
 }
 
 fn rows_line(rows: u32) {
     io::write_all(STDOUT_FILENO, b"rows ");
-    number(rows);
+    decimal(rows);
     io::write_all(STDOUT_FILENO, b"\n");
 }
 
 fn row_line(chute: u32, destination: u32) {
-    number(chute);
+    decimal(chute);
     io::write_all(STDOUT_FILENO, b" ");
-    number(destination);
+    decimal(destination);
     io::write_all(STDOUT_FILENO, b"\n");
 }
 
 fn report(plan: &[u8]) {
     let summary = plan::read_plan(plan);
-    if summary.refusal != 0 {
-        refused_line(summary.refusal);
+    if summary.number != 0 {
+        refused_line(summary.number);
         return;
     }
     let rows = summary.rows;
     rows_line(rows);
-    let start = plan_walk::start_at(plan);
-    let mut at = start.at;
+    let mut cursor = plan_walk::start_at(plan);
     let mut chute: u32 = 0;
     while chute < rows {
-        let step = plan_walk::step_at(plan, at, 0);
+        let answer = plan_walk::step_at(plan, cursor);
         chute += 1;
-        row_line(chute, step.destination);
-        at = step.next;
+        row_line(chute, answer.destination);
+        let next = answer.next;
+        cursor = next;
     }
 }

@@ -1,35 +1,67 @@
--- From the answers of the number reader and of the row reader to a walk's start and to an ask's answer.
+-- From the answers of the number reader, of reading the plan whole and of the row reader to a walk's start and to an ask's answer.
 use mathlib.Core.Path.{_≡_, refl, sym, ap, _∙_}
 use mathlib.Core.List.{List}
-use Prim.Native.Nat.{ℕ}
+use Prim.Native.Nat.{ℕ, zero, suc}
+use native.Mathlib.Omega.{arith}
 use lib.ListN.{drop}
-use borrow.Author.Tests.{eq-eqb, ne-eqb}
-use Rattle.plan.specs.Number.{Parsed, value, bad, number, numberAnswer}
-use Rattle.plan.specs.Plan.{rowAnswer}
+use Rattle.answers.specs.Done.{ifDone}
+use Rattle.leb128.specs.Number.{Parsed, value, bad}
+use Rattle.leb128.specs.Answers.{numberAnswer}
+use Rattle.leb128.specs.declared.Number.{Number}
+use Rattle.leb128.specs.declared.Number.the-variants.{Value, Bad}
+use Rattle.plan.specs.Plan.{planNumber, rowAnswer}
 use Rattle.plan.specs.Answers.{summaryOf}
-use Rattle.plan.specs.declared.number.Number.{Number}
-use Rattle.plan.specs.declared.number.Number.the-variants.{Value, Bad}
 use Rattle.plan.specs.declared.RowRead.{RowRead}
+use Rattle.plan.specs.declared.RowRead.the-variants.{Found, NotRow}
 use Rattle.plan.specs.declared.PlanSummary.{PlanSummary}
-use Rattle.plan_walk.specs.Walk.{start, startOf, stay, asked, stepOf}
+use Rattle.plan_walk.specs.Walk.{placeAfter, firstRow, walkStart, stay, asked, walkStep}
 use Rattle.plan_walk.specs.declared.Cursor.{Cursor}
+use Rattle.plan_walk.specs.declared.WalkAnswer.{WalkAnswer}
 
-abbrev pub startNumber : ℕ → Number → Cursor
-startNumber n (Value v next) = record { at = next; refusal = n }
-startNumber n (Bad place) = record { at = 0; refusal = n }
+-- the new value where the number is 0, and else the old one
+pub done-new : {A : Type 0} (n : ℕ) (new old : A) → n ≡ 0 → ifDone n new old ≡ new
+done-new zero new old e = refl
+done-new (suc n) new old e = let z : _≡_ {A = ℕ} 0 1 = cc in absurd (omega arith)
 
-start-number : (n : ℕ) (p : Parsed) → startNumber n (numberAnswer p) ≡ start n p
-start-number n (value v next rest) = refl
-start-number n (bad place) = refl
+pub refused-old : {A : Type 0} (n : ℕ) (new old : A) → (n ≡ 0 → ⊥) → ifDone n new old ≡ old
+refused-old zero new old h = absurd (h refl)
+refused-old (suc n) new old h = refl
 
-pub start-from : (s : List ℕ) (k : PlanSummary) (n : Number) → k ≡ summaryOf s → n ≡ numberAnswer (number 0 (drop 0 s)) → startNumber (k .refusal) n ≡ startOf s
-unfolding startOf
-start-from s k n ek en = rw (ek, en) (start-number (summaryOf s .refusal) (number 0 s))
+-- the place after the number of rows, from the number reader's answer
+abbrev pub placePast : Number → ℕ
+placePast (Value v next) = next
+placePast (Bad place) = 0
 
-pub step-refused : (s : List ℕ) (at n : ℕ) → (n ≡ 0 → ⊥) → stay n at ≡ stepOf s at n
-unfolding stepOf
-step-refused s at n h = rw (ne-eqb _ _ h)
+pub place-past : (p : Parsed) → placePast (numberAnswer p) ≡ placeAfter p
+place-past (value v next rest) = refl
+place-past (bad place) = refl
 
-pub step-from : (s : List ℕ) (at n : ℕ) (r : RowRead) → n ≡ 0 → r ≡ rowAnswer at (number at (drop at s)) → asked at r ≡ stepOf s at n
-unfolding stepOf
-step-from s at n r z e = rw (e, eq-eqb _ _ z)
+-- the start
+module _ (s : List ℕ) (k : PlanSummary) (e : k ≡ summaryOf s) where
+  pub start-refused : (k .number ≡ 0 → ⊥) → _≡_ {A = Cursor} (record { at = 0; number = k .number }) (walkStart s)
+  unfolding walkStart
+  start-refused h = rw (← e, refused-old (k .number) (firstRow s) 0 h)
+
+  pub start-done : k .number ≡ 0 → (n : ℕ) → n ≡ firstRow s → _≡_ {A = Cursor} (record { at = n; number = 0 }) (walkStart s)
+  unfolding walkStart
+  start-done z n q = rw (← e, z, q)
+
+-- an ask
+module _ (s : List ℕ) (c : Cursor) where
+  pub step-refused : (c .number ≡ 0 → ⊥) → stay (c .number) c ≡ walkStep s c
+  unfolding walkStep
+  step-refused h = sym (refused-old (c .number) (asked c (rowAnswer (c .at) (planNumber (c .at) (drop (c .at) s)))) (stay (c .number) c) h)
+
+  pub step-from : (r : RowRead) → c .number ≡ 0 → r ≡ rowAnswer (c .at) (planNumber (c .at) (drop (c .at) s)) → asked c r ≡ walkStep s c
+  unfolding walkStep
+  step-from r z e = ap (asked c) e ∙ sym (done-new (c .number) (asked c (rowAnswer (c .at) (planNumber (c .at) (drop (c .at) s)))) (stay (c .number) c) z)
+
+  -- an ask that hands out nothing stays where it is
+  pub step-stays : (walkStep s c .number ≡ 0 → ⊥) → walkStep s c .next ≡ c
+  unfolding walkStep
+  step-stays = go (c .number) (rowAnswer (c .at) (planNumber (c .at) (drop (c .at) s)))
+    where
+      go : (n : ℕ) (r : RowRead) → (ifDone n (asked c r) (stay (c .number) c) .number ≡ 0 → ⊥) → ifDone n (asked c r) (stay (c .number) c) .next ≡ c
+      go zero (Found row) h = absurd (h refl)
+      go zero (NotRow place) h = refl
+      go (suc n) r h = refl

@@ -1,3 +1,3 @@
 pub mod Walk
 pub mod Walker
-pub mod WalkLaws
+pub mod Walks

@@ -1,34 +1,39 @@
--- Walking over a plan's rows (document 01, 'The chute plan', the walker). Each answer is set out by the cases of what the row reader finds.
+-- Walking over a plan's rows (docs/RULES.md, 'Chute plan', the walker). Each answer is set out by the cases of what the row reader finds.
 use Prim.Native.Nat.{ℕ}
 use mathlib.Core.List.{List}
-use mathlib.Core.Bool.{cond}
-use lib.Dec.{eqb}
 use lib.ListN.{drop}
-use Rattle.plan.specs.Number.{Parsed, value, bad, number}
-use Rattle.plan.specs.Plan.{rowAnswer}
+use Rattle.answers.specs.Numbers.{done, noSuchChute}
+use Rattle.answers.specs.Done.{ifDone}
+use Rattle.leb128.specs.Number.{Parsed, value, bad}
+use Rattle.plan.specs.Plan.{planNumber, rowAnswer}
 use Rattle.plan.specs.Answers.{summaryOf}
 use Rattle.plan.specs.declared.RowRead.{RowRead}
 use Rattle.plan.specs.declared.RowRead.the-variants.{Found, NotRow}
 use Rattle.plan_walk.specs.declared.Cursor.{Cursor}
-use Rattle.plan_walk.specs.declared.Step.{Step}
+use Rattle.plan_walk.specs.declared.WalkAnswer.{WalkAnswer}
 
--- the start: after the number of rows, with the plan's refusal
-abbrev pub start : ℕ → Parsed → Cursor
-start refusal (value v next rest) = record { at = next; refusal = refusal }
-start refusal (bad place) = record { at = 0; refusal = refusal }
+-- the place after a number, 0 where there is none
+abbrev pub placeAfter : Parsed → ℕ
+placeAfter (value v next rest) = next
+placeAfter (bad place) = 0
 
-unfoldable pub startOf : List ℕ → Cursor
-startOf s = start (summaryOf s .refusal) (number 0 s)
+-- the first row stands after the number of rows
+abbrev pub firstRow : List ℕ → ℕ
+firstRow s = placeAfter (planNumber 0 s)
+
+-- the start: at the first row; or at 0 with the plan's refusal
+unfoldable pub walkStart : List ℕ → Cursor
+walkStart s = record { at = ifDone (summaryOf s .number) (firstRow s) 0; number = summaryOf s .number }
 
 -- an ask that hands out nothing: the place stays
-abbrev pub stay : ℕ → ℕ → Step
-stay n at = record { refusal = n; destination = 0; next = at }
+abbrev pub stay : ℕ → Cursor → WalkAnswer
+stay n c = record { number = n; destination = 0; next = c }
 
 -- an ask: the row's destination and the place past it, or 10 where there is no row
-abbrev pub asked : ℕ → RowRead → Step
-asked at (Found row) = record { refusal = 0; destination = row .destination; next = row .end }
-asked at (NotRow place) = stay 10 at
+abbrev pub asked : Cursor → RowRead → WalkAnswer
+asked c (Found row) = record { number = done; destination = row .destination; next = record { at = row .end; number = done } }
+asked c (NotRow place) = stay noSuchChute c
 
 -- on a refused plan every ask answers the plan's number
-unfoldable pub stepOf : List ℕ → ℕ → ℕ → Step
-stepOf s at refusal = cond (eqb refusal 0) (asked at (rowAnswer at (number at (drop at s)))) (stay refusal at)
+unfoldable pub walkStep : List ℕ → Cursor → WalkAnswer
+walkStep s c = ifDone (c .number) (asked c (rowAnswer (c .at) (planNumber (c .at) (drop (c .at) s)))) (stay (c .number) c)

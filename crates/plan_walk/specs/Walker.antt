@@ -1,20 +1,20 @@
--- The walker (document 01, 'a walker that keeps the lent plan and its place in it'): the lent plan itself, the place and the plan's refusal.
-use Prim.Native.Nat.{ℕ}
+-- The walker (docs/RULES.md, 'Chute plan'): the lent plan itself, and where the walk over it stands.
 use mathlib.Core.List.{List}
+use Prim.Native.Nat.{ℕ}
 use denote.Ref.{RefT, now}
-use Rattle.plan_walk.specs.Walk.{stepOf}
+use Rattle.plan_walk.specs.Walk.{walkStep}
 use Rattle.plan_walk.specs.declared.Cursor.{Cursor}
-use Rattle.plan_walk.specs.declared.Step.{Step}
+use Rattle.plan_walk.specs.declared.WalkAnswer.{WalkAnswer}
 use Rattle.plan_walk.specs.declared.Walker.{Walker}
 
 -- a walker of a lent plan, at a cursor
 abbrev pub walkerAt : RefT (List ℕ) → Cursor → Walker
-walkerAt plan c = record { plan = plan; at = c .at; refusal = c .refusal }
+walkerAt plan c = record { plan = plan; cursor = c }
 
 -- what an ask of it answers
-abbrev pub asks : Walker → Step
-asks w = stepOf (now (w .plan)) (w .at) (w .refusal)
+abbrev pub asks : Walker → WalkAnswer
+asks w = walkStep (now (w .plan)) (w .cursor)
 
--- the same walker at another place
-abbrev pub moved : Walker → ℕ → Walker
-moved w at = record { plan = w .plan; at = at; refusal = w .refusal }
+-- the same walker, standing elsewhere
+abbrev pub moved : Walker → Cursor → Walker
+moved w c = record { plan = w .plan; cursor = c }

@@ -1,89 +1,102 @@
-// The walker of document 01: keeps a lent plan and its place in it, and hands out the rows' destinations one after another.
-use plan::Number;
+// The walker (docs/RULES.md, 'Chute plan'): keeps a lent plan and its place in it, and hands out the rows' destinations one after another.
+use leb128::Number;
 use plan::RowRead;
 ghost use mathlib.Core.Path.{_≡_};
-ghost use Rattle.plan_walk.specs.Walk.{stay, startOf, stepOf};
+ghost use Rattle.plan_walk.specs.Walk.{firstRow, stay, walkStart, walkStep};
 ghost use Rattle.plan_walk.specs.Walker.{walkerAt, asks, moved};
 
-// The lent plan, the place of the next row in it, and the plan's refusal.
-pub struct Walker<'a> {
-    pub plan: &'a [u8],
-    pub at: usize,
-    pub refusal: u8,
-}
-
-// What a walker keeps beside the plan.
+// Where a walk stands: the place of the next row, and the plan's refusal, with which the place is 0.
 #[repr(C)]
 pub struct Cursor {
     pub at: usize,
-    pub refusal: u8,
+    pub number: u8,
 }
 
-// The answer to an ask, and the place after it.
-#[repr(C)]
-pub struct Step {
-    pub refusal: u8,
+// The lent plan, and where the walk over it stands.
+pub struct Walker<'a> {
+    pub plan: &'a [u8],
+    pub cursor: Cursor,
+}
+
+// The answer to an ask, and where the walk stands after it.
+pub struct WalkAnswer {
+    pub number: u8,
     pub destination: u32,
-    pub next: usize,
+    pub next: Cursor,
 }
 
-fn stays(refusal: u8, at: usize) -> Step
-    ensures { λ r. ⌜ r ≡ stay refusal at ⌝ }
+fn stays(number: u8, cursor: Cursor) -> WalkAnswer
+    ensures { λ r. ⌜ r ≡ stay number cursor ⌝ }
 {
-    Step {
-        refusal,
+    WalkAnswer {
+        number,
         destination: 0,
-        next: at,
+        next: cursor,
     }
 }
 
-// Where a walk starts: the plan is read whole, and the first row stands after the number of rows.
+// The place after the number of rows, 0 where there is none.
+fn first_row(plan: &[u8]) -> usize
+    ensures { λ r. ⌜ r ≡ firstRow (now (plan .entry)) ⌝ }
+{
+    match leb128::number_at(plan, 0, plan::PADDED) {
+        Number::Value { value: _, next } => next,
+        Number::Bad(_) => 0,
+    }
+}
+
+// Where a walk starts: the plan is read whole, and the first row stands after the number of rows. A refused plan has no place.
 pub fn start_at(plan: &[u8]) -> Cursor
-    ensures { λ r. ⌜ r ≡ startOf (now (plan .entry)) ⌝ }
+    ensures { λ r. ⌜ r ≡ walkStart (now (plan .entry)) ⌝ }
 {
     let summary = plan::read_plan(plan);
-    let refusal = summary.refusal;
-    match plan::number_at(plan, 0) {
-        Number::Value { value: _, next } => Cursor { at: next, refusal },
-        Number::Bad(_) => Cursor { at: 0, refusal },
+    if summary.number != answers::DONE {
+        return Cursor {
+            at: 0,
+            number: summary.number,
+        };
+    }
+    Cursor {
+        at: first_row(plan),
+        number: answers::DONE,
     }
 }
 
 // An ask at a place of a plan with that refusal.
-pub fn step_at(plan: &[u8], at: usize, refusal: u8) -> Step
-    ensures { λ r. ⌜ r ≡ stepOf (now (plan .entry)) at refusal ⌝ }
+pub fn step_at(plan: &[u8], cursor: Cursor) -> WalkAnswer
+    ensures { λ r. ⌜ r ≡ walkStep (now (plan .entry)) cursor ⌝ }
 {
-    if refusal != 0 {
-        return stays(refusal, at);
+    if cursor.number != answers::DONE {
+        return stays(cursor.number, cursor);
     }
+    let at = cursor.at;
     let read = plan::row_at(plan, at);
     let RowRead::Found(row) = read else {
-        return stays(10, at);
+        return stays(answers::NO_SUCH_CHUTE, cursor);
     };
-    Step {
-        refusal: 0,
+    WalkAnswer {
+        number: answers::DONE,
         destination: row.destination,
-        next: row.end,
+        next: Cursor {
+            at: row.end,
+            number: answers::DONE,
+        },
     }
 }
 
 // A walker at the first row of a plan.
 pub fn new<'a>(plan: &'a [u8]) -> Walker<'a>
-    ensures { λ r. ⌜ r ≡ walkerAt (plan .entry) (startOf (now (plan .entry))) ⌝ }
+    ensures { λ r. ⌜ r ≡ walkerAt (plan .entry) (walkStart (now (plan .entry))) ⌝ }
 {
-    let start = start_at(plan);
-    Walker {
-        plan,
-        at: start.at,
-        refusal: start.refusal,
-    }
+    let cursor = start_at(plan);
+    Walker { plan, cursor }
 }
 
 // An ask: the next row's destination, and the walker stands past that row.
-pub fn next<'s, 'a>(w: &'s mut Walker<'a>) -> Step
+pub fn next<'s, 'a>(w: &'s mut Walker<'a>) -> WalkAnswer
     ensures { λ r. ⌜ (r ≡ asks (now (w .entry))) × (now (w .exit) ≡ moved (now (w .entry)) (r .next)) ⌝ }
 {
-    let answer = step_at(w.plan, w.at, w.refusal);
-    w.at = answer.next;
+    let answer = step_at(w.plan, w.cursor);
+    w.cursor = answer.next;
     answer
 }

@@ -10,19 +10,24 @@ use lib.ListN.{length, getD, drop, set, length-append, drop-of-length-le}
 use lib.Seq.{drop-length, sets, drop-cons, sets-eq}
 use lib.Dec.{leb, eqb}
 use borrow.Author.Tests.{le-leb, lt-leb, leb-true, eq-eqb, ne-eqb}
-use Rattle.plan_write.specs.Write.{writtenNumber, writtenRows, writtenPlan, rowsAllowed, allowed, lengthIs, noLength, lengthOf, fills, writeRefusal, writtenOf}
-use Rattle.plan_write.specs.RoundTrip.{and-left, and-right, plan-length}
+use Rattle.leb128.specs.Answers.{numberLength}
+use Rattle.leb128.specs.Written.{writtenNumber}
+use Rattle.leb128.specs.Laws.Writing.{groups-count}
+use Rattle.plan.specs.Limits.{maxRows, maxDestination}
+use Rattle.plan_write.specs.Write.{writtenRows, writtenPlan, rowsAllowed, allowed, lengthIs, noLength, lengthOf, fills, writeRefusal, writtenOf}
+use Rattle.plan_write.specs.Write.{WritesPlan}
+use Rattle.plan_write.specs.WriteLaws.{and-left, and-right, plan-length}
 use Rattle.plan_write.specs.declared.PlanLength.{PlanLength}
 
 -- the length of a plan of which n bytes are counted and these rows are to come
 abbrev pub lengthFrom : ℕ → List ℕ → PlanLength
 lengthFrom n l = cond (rowsAllowed l) (lengthIs (n + length (writtenRows l))) noLength
 
-pub length-start : (l : List ℕ) → length l ≤ 4096 → lengthFrom (length (writtenNumber (length l))) l ≡ lengthOf l
+pub length-start : (l : List ℕ) → length l ≤ maxRows → lengthFrom (length (writtenNumber (length l))) l ≡ lengthOf l
 unfolding lengthOf allowed
 length-start l h = rw (le-leb _ _ h, plan-length l)
 
-pub length-many : (l : List ℕ) → 4096 < length l → noLength ≡ lengthOf l
+pub length-many : (l : List ℕ) → maxRows < length l → noLength ≡ lengthOf l
 unfolding lengthOf allowed
 length-many l h = rw (lt-leb _ _ h)
 
@@ -45,16 +50,17 @@ module _ (i : ℕ) (l : List ℕ) (h : i < length l) where
   unfolding writtenRows
   rows-length = rw (here i l h, length-append)
 
-  rows-allowed : rowsAllowed (drop i l) ≡ (leb (getD l i 0) 2097151 && rowsAllowed (drop (i + 1) l))
+  rows-allowed : rowsAllowed (drop i l) ≡ (leb (getD l i 0) maxDestination && rowsAllowed (drop (i + 1) l))
   unfolding rowsAllowed
   rows-allowed = rw (here i l h)
 
-  pub length-more : (n : ℕ) → getD l i 0 ≤ 2097151 → lengthFrom n (drop i l) ≡ lengthFrom (n + length (writtenNumber (getD l i 0))) (drop (i + 1) l)
+  pub length-more : (n : ℕ) → getD l i 0 ≤ maxDestination → lengthFrom n (drop i l) ≡ lengthFrom (n + length (writtenNumber (getD l i 0))) (drop (i + 1) l)
   length-more n m =
-      let e : n + length (writtenRows (drop i l)) ≡ n + length (writtenNumber (getD l i 0)) + length (writtenRows (drop (i + 1) l)) = omega (arith, rows-length) in
+      let e : n + length (writtenRows (drop i l)) ≡ n + length (writtenNumber (getD l i 0)) + length (writtenRows (drop (i + 1) l)) = omega
+      (arith, rows-length) in
       rw (e, rows-allowed, le-leb _ _ m)
 
-  pub length-large : (n : ℕ) → 2097151 < getD l i 0 → lengthFrom n (drop i l) ≡ noLength
+  pub length-large : (n : ℕ) → maxDestination < getD l i 0 → lengthFrom n (drop i l) ≡ noLength
   length-large n m = rw (rows-allowed, lt-leb _ _ m)
 
   -- rows stored one after another
@@ -62,16 +68,17 @@ module _ (i : ℕ) (l : List ℕ) (h : i < length l) where
   row-room at n r = omega (arith, rows-length)
 
   pub rows-sets : (out : List ℕ) (at : ℕ)
-      → sets out at (writtenRows (drop i l)) ≡ sets (sets out at (writtenNumber (getD l i 0))) (at + length (writtenNumber (getD l i 0))) (writtenRows (drop (i + 1) l))
+      → sets out at (writtenRows (drop i l)) ≡ sets (sets out at (writtenNumber (getD l i 0))) (at + length (writtenNumber (getD l i 0)))
+      (writtenRows (drop (i + 1) l))
   unfolding writtenRows
   rows-sets out at = rw (here i l h) (sets-append out at (writtenNumber (getD l i 0)) (writtenRows (drop (i + 1) l)))
 
   module _ (ok : rowsAllowed (drop i l) ≡ true) where
-    pub first-allowed : getD l i 0 ≤ 2097151
-    first-allowed = leb-true _ _ (and-left (leb (getD l i 0) 2097151) (rowsAllowed (drop (i + 1) l)) (sym rows-allowed ∙ ok))
+    pub first-allowed : getD l i 0 ≤ maxDestination
+    first-allowed = leb-true _ _ (and-left (leb (getD l i 0) maxDestination) (rowsAllowed (drop (i + 1) l)) (sym rows-allowed ∙ ok))
 
     pub others-allowed : rowsAllowed (drop (i + 1) l) ≡ true
-    others-allowed = and-right (leb (getD l i 0) 2097151) (rowsAllowed (drop (i + 1) l)) (sym rows-allowed ∙ ok)
+    others-allowed = and-right (leb (getD l i 0) maxDestination) (rowsAllowed (drop (i + 1) l)) (sym rows-allowed ∙ ok)
 
 pub length-end : (i n : ℕ) (l : List ℕ) → length l ≤ i → lengthFrom n (drop i l) ≡ lengthIs n
 unfolding rowsAllowed writtenRows
@@ -82,12 +89,12 @@ unfolding writtenRows
 rows-end i l out at h = rw (drop-of-length-le l h)
 
 -- what an accepted length says
-module _ (l : List ℕ) (p : PlanLength) (e : p ≡ lengthOf l) (z : p .refusal ≡ 0) where
+module _ (l : List ℕ) (p : PlanLength) (e : p ≡ lengthOf l) (z : p .number ≡ 0) where
   known-allowed : allowed l ≡ true
   unfolding lengthOf
-  known-allowed = go (allowed l) (sym (ap (λ (q : PlanLength). q .refusal) e) ∙ z)
+  known-allowed = go (allowed l) (sym (ap (λ (q : PlanLength). q .number) e) ∙ z)
     where
-      go : (b : Bool) → cond {A = PlanLength} b (lengthIs (length (writtenPlan l))) noLength .refusal ≡ 0 → b ≡ true
+      go : (b : Bool) → cond {A = PlanLength} b (lengthIs (length (writtenPlan l))) noLength .number ≡ 0 → b ≡ true
       go true q = refl
       go false q = absurd (omega arith)
 
@@ -95,32 +102,38 @@ module _ (l : List ℕ) (p : PlanLength) (e : p ≡ lengthOf l) (z : p .refusal 
   unfolding lengthOf
   known-length = ap (λ (q : PlanLength). q .length) e ∙ rw known-allowed
 
-  pub known-rows : (length l ≤ 4096) × (rowsAllowed l ≡ true)
+  pub known-rows : (length l ≤ maxRows) × (rowsAllowed l ≡ true)
   unfolding allowed
-  known-rows = (leb-true _ _ (and-left (leb (length l) 4096) (rowsAllowed l) known-allowed), and-right (leb (length l) 4096) (rowsAllowed l) known-allowed)
+  known-rows = (
+    leb-true _ _ (and-left (leb (length l) maxRows) (rowsAllowed l) known-allowed),
+    and-right (leb (length l) maxRows)
+        (rowsAllowed l) known-allowed,
+  )
 
   -- refused where the buffer has another length
-  pub other-length : (out : List ℕ) → (p .length ≡ length out → ⊥) → (9 ≡ writeRefusal l (length out)) × (out ≡ writtenOf l out)
+  pub other-length : (out : List ℕ) → (p .length ≡ length out → ⊥) → WritesPlan l out out 9
   unfolding writeRefusal writtenOf fills
   other-length out n =
       let d : length (writtenPlan l) ≡ length out → ⊥ = λ q. n (known-length ∙ q) in
-      (rw (known-allowed, ne-eqb _ _ d), rw (known-allowed, ne-eqb _ _ d))
+      record { number = rw (known-allowed, ne-eqb _ _ d); buffer = rw (known-allowed, ne-eqb _ _ d) }
 
   -- else both runs of stores together are the plan
-  pub all-written : (out a b : List ℕ) → p .length ≡ length out → a ≡ sets out 0 (writtenNumber (length l)) → b ≡ sets a (length (writtenNumber (length l))) (writtenRows l)
-      → (0 ≡ writeRefusal l (length out)) × (b ≡ writtenOf l out)
+  pub all-written : (out a b : List ℕ) → p .length ≡ length out → a ≡ sets out 0 (writtenNumber (length l))
+      → b ≡ sets a (length (writtenNumber (length l))) (writtenRows l)
+      → WritesPlan l out b 0
   unfolding writeRefusal writtenOf fills writtenPlan
   all-written out a b n ea eb =
       let m : length (writtenPlan l) ≡ length out = sym known-length ∙ n in
       let k : 0 + length (writtenNumber (length l)) ≡ length (writtenNumber (length l)) = omega arith in
       let whole : sets out 0 (writtenPlan l) ≡ b = sets-append out 0 (writtenNumber (length l)) (writtenRows l) ∙ rw (k, ← ea, ← eb) in
-      (rw (known-allowed, eq-eqb _ _ m), rw (known-allowed, eq-eqb _ _ m) (sym whole ∙ sets-all out (writtenPlan l) m))
+      record { number = rw (known-allowed, eq-eqb _ _ m); buffer = rw (known-allowed, eq-eqb _ _ m) (sym whole ∙ sets-all out (writtenPlan l) m) }
 
-pub not-allowed : (l out : List ℕ) (p : PlanLength) → p ≡ lengthOf l → (p .refusal ≡ 0 → ⊥) → (9 ≡ writeRefusal l (length out)) × (out ≡ writtenOf l out)
+pub not-allowed : (l out : List ℕ) (p : PlanLength) → p ≡ lengthOf l → (p .number ≡ 0 → ⊥) → WritesPlan l out out 9
 unfolding writeRefusal writtenOf fills lengthOf
-not-allowed l out p e n = go (allowed l) (λ q. n (ap (λ (t : PlanLength). t .refusal) e ∙ q))
+not-allowed l out p e n = let r = go (allowed l) (λ q. n (ap (λ (t : PlanLength). t .number) e ∙ q)) in record { number = r .0; buffer = r .1 }
   where
-    go : (b : Bool) → (cond {A = PlanLength} b (lengthIs (length (writtenPlan l))) noLength .refusal ≡ 0 → ⊥)
-        → (_≡_ {A = ℕ} 9 (cond (b && eqb (length (writtenPlan l)) (length out)) 0 9)) × (out ≡ cond (b && eqb (length (writtenPlan l)) (length out)) (writtenPlan l) out)
+    go : (b : Bool) → (cond {A = PlanLength} b (lengthIs (length (writtenPlan l))) noLength .number ≡ 0 → ⊥)
+        → (_≡_ {A = ℕ} 9 (cond (b && eqb (length (writtenPlan l)) (length out)) 0 9)) ×
+        (out ≡ cond (b && eqb (length (writtenPlan l)) (length out)) (writtenPlan l) out)
     go true q = absurd (q refl)
     go false q = (refl, refl)

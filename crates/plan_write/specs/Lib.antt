@@ -1,3 +1,4 @@
 pub mod Write
 pub mod Room
 pub mod RoundTrip
+pub mod WriteLaws

@@ -1,20 +1,15 @@
--- A plan written (document 01, 'The chute plan'): the number of rows, then each row's destination, each in the fewest groups. Rows that break the
+-- A plan written (docs/RULES.md, 'Chute plan'): the number of rows, then each row's destination, each in the fewest groups. Rows that break the
 -- plan's rules or don't fill the lent buffer exactly are refused with 9, and nothing is written.
-use Prim.Native.Nat.{ℕ, zero, suc, _+_, _/_, _%_}
+use Prim.Native.Nat.{ℕ}
+use mathlib.Core.Path.{_≡_}
 use mathlib.Core.List.{List, [], _∷_, _++_}
 use mathlib.Core.Bool.{Bool, true, cond, _&&_}
-use lib.Dec.{ltb, leb, eqb}
+use lib.Dec.{leb, eqb}
 use lib.ListN.{length}
+use Rattle.answers.specs.Numbers.{done, malformedPlan}
+use Rattle.leb128.specs.Written.{writtenNumber}
 use Rattle.plan.specs.Limits.{maxRows, maxDestination}
 use Rattle.plan_write.specs.declared.PlanLength.{PlanLength}
-
--- the fewest groups of a number that takes at most `more` + 1
-unfoldable pub writtenGroups : ℕ → ℕ → List ℕ
-writtenGroups zero v = v ∷ []
-writtenGroups (suc more) v = cond (ltb v 128) (v ∷ []) ((128 + v % 128) ∷ writtenGroups more (v / 128))
-
-abbrev pub writtenNumber : ℕ → List ℕ
-writtenNumber v = writtenGroups 2 v
 
 unfoldable pub writtenRows : List ℕ → List ℕ
 writtenRows [] = []
@@ -34,10 +29,10 @@ allowed l = leb (length l) maxRows && rowsAllowed l
 
 -- the length of a plan: 0 and the length, or 9 and 0
 abbrev pub lengthIs : ℕ → PlanLength
-lengthIs n = record { refusal = 0; length = n }
+lengthIs n = record { number = done; length = n }
 
 abbrev pub noLength : PlanLength
-noLength = record { refusal = 9; length = 0 }
+noLength = record { number = malformedPlan; length = 0 }
 
 unfoldable pub lengthOf : List ℕ → PlanLength
 lengthOf l = cond (allowed l) (lengthIs (length (writtenPlan l))) noLength
@@ -47,8 +42,13 @@ unfoldable pub fills : List ℕ → ℕ → Bool
 fills l n = allowed l && eqb (length (writtenPlan l)) n
 
 unfoldable pub writeRefusal : List ℕ → ℕ → ℕ
-writeRefusal l n = cond (fills l n) 0 9
+writeRefusal l n = cond (fills l n) done malformedPlan
 
 -- what the lent buffer holds afterwards: the plan, or what it held before
 unfoldable pub writtenOf : List ℕ → List ℕ → List ℕ
 writtenOf l out = cond (fills l (length out)) (writtenPlan l) out
+
+-- writing these rows into a lent buffer answers r, and leaves `after` in it
+pub record WritesPlan (l out after : List ℕ) (r : ℕ) : Type 0 where
+  pub number : r ≡ writeRefusal l (length out)
+  pub buffer : after ≡ writtenOf l out

@@ -1,6 +1,7 @@
 -- Patterned bytes, and the checksum that the gate's programs print instead of long outputs: a polynomial at 257 modulo 2^32 - 5.
 use mathlib.Core.List.{List, [], _∷_}
 use Prim.Native.Nat.{ℕ, zero, suc, _+_, _*_, _%_}
+use lib.ListN.{getD, drop}
 
 abbrev pub modulus : ℕ
 modulus = 4294967291
@@ -17,3 +18,10 @@ addBytes s (b ∷ bs) = addBytes (addNumber s b) bs
 unfoldable pub pattern : ℕ → ℕ → ℕ → List ℕ
 pattern zero v step = []
 pattern (suc n) v step = v % 256 ∷ pattern n ((v + step) % 256) step
+
+-- the numbers that the first two and the first four bytes make, lowest byte first
+abbrev pub halfOf : List ℕ → ℕ
+halfOf s = getD s 0 0 + 256 * getD s 1 0
+
+abbrev pub wordOf : List ℕ → ℕ
+wordOf s = halfOf s + 65536 * halfOf (drop 2 s)

@@ -1,8 +1,8 @@
-// What the gate's programs share: patterned data, parts of a slice, a checksum, and printing.
+// What the gate's programs share: patterned data, parts of a slice and numbers in it, a checksum, and printing.
 ghost use mathlib.Core.Path.{_≡_};
-ghost use lib.ListN.{length, take};
+ghost use lib.ListN.{length, take, drop, getD};
 ghost use lib.Seq.{sets};
-ghost use Rattle.testing.specs.Data.{addNumber, addBytes, pattern};
+ghost use Rattle.testing.specs.Data.{addNumber, addBytes, pattern, halfOf, wordOf};
 use libc::STDOUT_FILENO;
 
 fn wide(byte: u8) -> u64
@@ -29,6 +29,40 @@ pub fn first(bytes: &[u8], n: usize) -> &[u8]
     ensures { λ r. ⌜ now r ≡ take n (now (bytes .entry)) ⌝ }
 {
     if n <= bytes.len() { &bytes[..n] } else { bytes }
+}
+
+// The bytes after the first n, none where there are fewer.
+pub fn rest(bytes: &[u8], n: usize) -> &[u8]
+    ensures { λ r. ⌜ now r ≡ drop n (now (bytes .entry)) ⌝ }
+{
+    if n <= bytes.len() {
+        return &bytes[n..];
+    }
+    &bytes[..0]
+}
+
+// The byte at a place, 0 past the end.
+pub fn byte_at(bytes: &[u8], i: usize) -> u8
+    ensures { λ r. ⌜ r ≡ getD (now (bytes .entry)) i 0 ⌝ }
+{
+    if i < bytes.len() {
+        return bytes[i];
+    }
+    0
+}
+
+// The number that the first two bytes make, lowest byte first.
+fn half(bytes: &[u8]) -> u16
+    ensures { λ r. ⌜ r ≡ halfOf (now (bytes .entry)) ⌝ }
+{
+    (wide(byte_at(bytes, 0)) + 256 * wide(byte_at(bytes, 1))) as u16
+}
+
+// The number that the first four bytes make, lowest byte first.
+pub fn word(bytes: &[u8]) -> u32
+    ensures { λ r. ⌜ r ≡ wordOf (now (bytes .entry)) ⌝ }
+{
+    half(bytes) as u32 + 65536 * (half(rest(bytes, 2)) as u32)
 }
 
 // The checksum of what came before, taken on by one number; below 2^32 - 5, the modulus.

@@ -1,4 +1,4 @@
--- P1 to P12 of document 01, 'Both sides of the line', over the definitions that the contracts cite.
+-- P1 to P12 (docs/RULES.md, 'Facts'), over the definitions that the contracts cite.
 use mathlib.Core.Path.{_≡_}
 use mathlib.Core.List.{[], _∷_}
 use Rattle.encode.specs.Encode.{leftEncode, rightEncode, encodeString, KMAC}
@@ -15,12 +15,12 @@ pub record TwelveFacts : Type 0 where
   pub p6 : encodeString KMAC ≡ 0x01 ∷ 0x20 ∷ 0x4b ∷ 0x4d ∷ 0x41 ∷ 0x43 ∷ []
   pub p7 : leftEncode 136 ≡ 0x01 ∷ 0x88 ∷ []
   -- the plan 03 07 AC 02 00: chutes 2, 4 and 0
-  pub p8 : lookupOf planAbove 2 ≡ record { refusal = 0; destination = 300 }
+  pub p8 : lookupOf planAbove 2 ≡ record { number = 0; destination = 300 }
   pub p9 : lookupOf planAbove 4 ≡ noDestination 10
   pub p10 : lookupOf planAbove 0 ≡ noDestination 10
   -- a plan of no rows, and a number of four groups
-  pub p11 : summaryOf (0x00 ∷ []) ≡ record { refusal = 0; rows = 0 }
-  pub p12 : summaryOf (0x01 ∷ 0x80 ∷ 0x80 ∷ 0x80 ∷ 0x00 ∷ []) ≡ record { refusal = 9; rows = 0 }
+  pub p11 : summaryOf (0x00 ∷ []) ≡ record { number = 0; rows = 0 }
+  pub p12 : summaryOf (0x01 ∷ 0x80 ∷ 0x80 ∷ 0x80 ∷ 0x00 ∷ []) ≡ record { number = 9; rows = 0 }
 
 pub twelve-facts : TwelveFacts
 twelve-facts =

@@ -1,2 +1,1 @@
-// The twelve facts of document 01, 'Both sides of the line', under a single statement. All of it
-// stands in specs/.
+// The twelve facts (docs/RULES.md, 'Facts') under a single statement. All of it stands in specs/.

@@ -12,17 +12,17 @@ read-whole-requires c κs = search needs
 enum-known-count : tie.Need-enum-known-count
 enum-known-count c = search needs
 
-enum-known-refusal : tie.Need-enum-known-refusal
-enum-known-refusal c = search needs
+enum-known-number : tie.Need-enum-known-number
+enum-known-number c = search needs
 
 returns : tie.Need-returns
 unfolding summaryOf
-returns c = sym (ap summary (c .before .count .given .1)) ∙ ap summary (c .before .before .before .read-whole .ensures)
+returns c = let m = c .before in sym (ap summary (m .count .given .1)) ∙ ap summary (m .before .before .read-whole .ensures)
 
 returns-2 : tie.Need-returns-2
 unfolding summaryOf
-returns-2 c = sym (ap summary (c .before .refusal .given .1)) ∙ ap summary (c .before .before .before .read-whole .ensures)
+returns-2 c = let m = c .before in sym (ap summary (m .number .given .1)) ∙ ap summary (m .before .before .read-whole .ensures)
 
 pub read-plan-spec : {M : Type 1} → statement M
 read-plan-spec =
-    tie.close (tie.spec read-whole-requires enum-known-count enum-known-refusal returns returns-2)
+    tie.close (tie.spec read-whole-requires enum-known-count enum-known-number returns returns-2)

@@ -19,6 +19,17 @@ Inv-loop plan first count chute found₀ at₀ i₀ found at i =
 abbrev μ-loop : tie.MeasureT-loop
 μ-loop plan first count chute found₀ at₀ i₀ found at i = count - i
 
+-- where a turn began, and the function
+abbrev turn : tie.After-row-at Inv-loop μ-loop → tie.At-loop Inv-loop μ-loop
+turn r = r .before .before
+
+abbrev start : tie.At-loop Inv-loop μ-loop → tie.Start Inv-loop μ-loop
+start t = t .before .before
+
+-- a turn that read a row
+abbrev read : tie.After-known-told Inv-loop μ-loop → tie.After-row-at Inv-loop μ-loop
+read k = k .before .before .before
+
 loop-holds : tie.Need-loop-holds Inv-loop μ-loop
 loop-holds c =
     let a = c .before .args in
@@ -42,26 +53,36 @@ malformed-requires c κs = search needs
 
 returns : tie.Need-returns Inv-loop μ-loop
 returns c =
-    let a = c .before .before .before .before .before .before .before .before .args in
-    let l = c .before .before .before .before .before .before .loop in
-    let told = c .before .before .enum-told .given in
-    c .malformed .ensures ∙ ap (Refused 9) (c .before .place-of .ensures ∙ ap placeOf (told .1))
-    ∙ sym (keeping-bad (a .chute) (l .i) (l .at) (a .count) (l .found) (now (a .plan)) (told .0 .0) (c .before .before .before .before .before .loop-test .taken) (sym (c .before .before .before .before .row-at .ensures) ∙ told .1))
+    let m = c .before .before in
+    let r = m .before .before in
+    let l = turn r .loop in
+    let a = start (turn r) .args in
+    let other = m .enum-told .given in
+    c .malformed .ensures ∙ ap (Refused 9) (c .before .place-of .ensures ∙ ap placeOf (other .1))
+    ∙ sym (keeping-bad (a .chute) (l .i) (l .at) (a .count) (l .found) (now (a .plan)) (other .0 .0) (r .before .loop-test .taken)
+    (sym (r .row-at .ensures .answer) ∙ other .1))
     ∙ l .inv .1
 
 add-i : tie.Need-add-i Inv-loop μ-loop
 add-i c = search needs
+
+wide-requires : tie.Need-wide-requires Inv-loop μ-loop
+wide-requires c κs = search needs
 
 loop-less : tie.Need-loop-less Inv-loop μ-loop
 loop-less c = search needs
 
 loop-again : tie.Need-loop-again Inv-loop μ-loop
 loop-again c =
-    let a = c .before .before .before .before .before .before .before .before .args in
-    let l = c .before .before .before .before .before .before .loop in
-    let got = c .before .before .read .given in (
-      omega arith,
-      sym (keeping-new (a .chute) (l .i) (l .at) (a .count) (l .found) (now (a .plan)) (got .0 .0) (c .before .before .before .before .before .loop-test .taken) (sym (c .before .before .before .before .row-at .ensures) ∙ got .1) (c .if1 .taken))
+    let w = c .before in
+    let r = read (w .before) in
+    let l = turn r .loop in
+    let a = start (turn r) .args in
+    let got = w .before .before .read .given in (
+      omega (arith, r .before .loop-test .taken),
+      sym (keeping-new (a .chute) (l .i) (l .at) (a .count) (l .found) (now (a .plan)) (got .0 .0) (r .before .loop-test .taken)
+          (sym (r .row-at .ensures .answer) ∙ got .1)
+          (sym (w .wide .ensures) ∙ c .if1 .taken))
           ∙ l .inv .1,
     )
 
@@ -70,11 +91,15 @@ loop-less-2 c = search needs
 
 loop-again-2 : tie.Need-loop-again-2 Inv-loop μ-loop
 loop-again-2 c =
-    let a = c .before .before .before .before .before .before .before .before .args in
-    let l = c .before .before .before .before .before .before .loop in
-    let got = c .before .before .read .given in (
-      omega arith,
-      sym (keeping-old (a .chute) (l .i) (l .at) (a .count) (l .found) (now (a .plan)) (got .0 .0) (c .before .before .before .before .before .loop-test .taken) (sym (c .before .before .before .before .row-at .ensures) ∙ got .1) (c .if1 .left))
+    let w = c .before in
+    let r = read (w .before) in
+    let l = turn r .loop in
+    let a = start (turn r) .args in
+    let got = w .before .before .read .given in (
+      omega (arith, r .before .loop-test .taken),
+      sym (keeping-old (a .chute) (l .i) (l .at) (a .count) (l .found) (now (a .plan)) (got .0 .0) (r .before .loop-test .taken)
+          (sym (r .row-at .ensures .answer) ∙ got .1)
+          (λ e. c .if1 .left (w .wide .ensures ∙ e)))
           ∙ l .inv .1,
     )
 
@@ -83,17 +108,20 @@ malformed-requires-2 c κs = search needs
 
 returns-2 : tie.Need-returns-2 Inv-loop μ-loop
 returns-2 c =
-    let a = c .before .before .before .before .before .args in
-    let l = c .before .before .before .loop in
-    c .malformed2 .ensures ∙ sym (keeping-over (a .chute) (l .i) (l .at) (a .count) (l .found) (now (a .plan)) (c .before .before .loop-test .left) (c .before .if2 .taken)) ∙ l .inv .1
+    let past = c .before .before in
+    let l = past .before .loop in
+    let a = start (past .before) .args in
+    c .malformed2 .ensures
+    ∙ sym (keeping-over (a .chute) (l .i) (l .at) (a .count) (l .found) (now (a .plan)) (past .loop-test .left) (c .before .if2 .taken)) ∙ l .inv .1
 
 returns-3 : tie.Need-returns-3 Inv-loop μ-loop
 returns-3 c =
-    let a = c .before .before .before .before .args in
-    let l = c .before .before .loop in
-    let e : a .count ≡ l .i = omega arith in
+    let past = c .before in
+    let l = past .before .loop in
+    let a = start (past .before) .args in
+    let e : a .count ≡ l .i = omega (arith, l .inv .0, past .loop-test .left) in
     ap (λ (n : ℕ). Rows n (l .found)) e
-    ∙ sym (keeping-done (a .chute) (l .i) (l .at) (a .count) (l .found) (now (a .plan)) (c .before .loop-test .left) (c .if2 .left)) ∙ l .inv .1
+    ∙ sym (keeping-done (a .chute) (l .i) (l .at) (a .count) (l .found) (now (a .plan)) (past .loop-test .left) (c .if2 .left)) ∙ l .inv .1
 
 pub read-rows-spec : {M : Type 1} → statement M
 read-rows-spec =
@@ -109,6 +137,7 @@ read-rows-spec =
     malformed-requires
     returns
     add-i
+    wide-requires
     loop-less
     loop-again
     loop-less-2

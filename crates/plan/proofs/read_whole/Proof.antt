@@ -1,24 +1,33 @@
 -- A long plan is refused before it is read. Else the plan hangs on its first number, by the definition's own cases: too many rows, the rows that
 -- `read_rows` reads, or no number.
 use mathlib.Core.Path.{_≡_, refl, sym, ap, _∙_}
-use mathlib.Core.Bool.{true, false}
 use native.Mathlib.Omega.{arith}
 use denote.Ref.{now}
 use borrow.Author.Tests.{le-leb, lt-leb}
+use Rattle.leb128.specs.declared.Number.the-variants.{Value, Bad}
 use Rattle.plan.specs.Plan.{planOf, planAnswer}
-use Rattle.plan.specs.declared.number.Number.the-variants.{Value, Bad}
-use Rattle.plan.specs.declared.PlanRead.the-variants.{Refused}
 use Rattle.plan.proofs.Rows.{rowsAfter, whole-long, whole-after}
 use borrow.Author.Needs.{needs}
 use Rattle.plan.proofs.read_whole.Statement.{statement}
 use Rattle.plan.proofs.read_whole.Tie as tie
 
+abbrev start : tie.After-number-at → tie.Start
+start n = n .before .before .before
+
 -- what the plan is after its first number
-after : (c : tie.After-value) → let a = c .before .before .before .before .before .args in rowsAfter (a .chute) (now (a .plan)) (Value (c .value .given .0 .0) (c .value .given .0 .1 .0)) ≡ planAnswer (a .chute) (planOf (now (a .plan)))
-after c =
-    let a = c .before .before .before .before .before .args in
-    let f = rowsAfter (a .chute) (now (a .plan)) in
-    sym (ap f (c .value .given .1)) ∙ ap f (c .before .before .number-at .ensures) ∙ whole-after (a .chute) (now (a .plan)) (c .before .before .before .if1 .left)
+after : (n : tie.After-number-at)
+    → let a = start n .args in rowsAfter (a .chute) (now (a .plan)) (n .number-at .result) ≡ planAnswer (a .chute) (planOf (now (a .plan)))
+after n =
+    let a = start n .args in
+    ap (rowsAfter (a .chute) (now (a .plan))) (n .number-at .ensures .answer) ∙ whole-after (a .chute) (now (a .plan)) (n .before .if1 .left)
+
+-- where there is one
+known : (c : tie.After-value) → let a = start (c .before .before) .args in
+    rowsAfter (a .chute) (now (a .plan)) (Value (c .value .given .0 .0) (c .value .given .0 .1 .0)) ≡ planAnswer (a .chute) (planOf (now (a .plan)))
+known c =
+    let n = c .before .before in
+    let a = start n .args in
+    sym (ap (rowsAfter (a .chute) (now (a .plan))) (c .value .given .1)) ∙ after n
 
 returns : tie.Need-returns
 returns c = sym (whole-long _ _ (c .if1 .taken))
@@ -33,7 +42,7 @@ malformed-requires : tie.Need-malformed-requires
 malformed-requires c κs = search needs
 
 returns-2 : tie.Need-returns-2
-returns-2 c = c .malformed .ensures ∙ (rw (lt-leb _ _ (c .before .if2 .taken))) ∙ after (c .before .before .before)
+returns-2 c = c .malformed .ensures ∙ (rw (lt-leb _ _ (c .before .if2 .taken))) ∙ known (c .before .before .before)
 
 read-rows-requires : tie.Need-read-rows-requires
 read-rows-requires c κs = search needs
@@ -45,13 +54,14 @@ malformed-requires-2 : tie.Need-malformed-requires-2
 malformed-requires-2 c κs = search needs
 
 returns-3 : tie.Need-returns-3
-returns-3 c = c .read-rows .ensures ∙ (rw (le-leb _ _ (c .before .if2 .left))) ∙ after (c .before .before .before)
+returns-3 c = c .read-rows .ensures ∙ (rw (le-leb _ _ (c .before .if2 .left))) ∙ known (c .before .before .before)
 
 returns-4 : tie.Need-returns-4
 returns-4 c =
-    let a = c .before .before .before .before .before .before .before .args in
-    let f = rowsAfter (a .chute) (now (a .plan)) in
-    c .malformed2 .ensures ∙ sym (ap f (c .before .before .place .given .1)) ∙ ap f (c .before .before .before .before .number-at .ensures) ∙ whole-after (a .chute) (now (a .plan)) (c .before .before .before .before .before .if1 .left)
+    let m = c .before .before in
+    let n = m .before .before in
+    let a = start n .args in
+    c .malformed2 .ensures ∙ sym (ap (rowsAfter (a .chute) (now (a .plan))) (m .place .given .1)) ∙ after n
 
 pub read-whole-spec : {M : Type 1} → statement M
 read-whole-spec =

@@ -1,14 +1,17 @@
--- The code's test is the definition's.
--- Where it holds the first number is the smaller, and else the second.
-use borrow.Author.Tests.{le-leb, lt-leb}
+-- The code's tests are the definition's.
+-- Where there is no other refusal the first is given, and else the smaller.
+use borrow.Author.Tests.{le-leb, lt-leb, eq-eqb, ne-eqb}
 use Rattle.plan_pair.proofs.smaller.Statement.{statement}
 use Rattle.plan_pair.proofs.smaller.Tie as tie
 
 returns : tie.Need-returns
-returns c = rw (le-leb _ _ (c .if1 .taken))
+returns c = rw (eq-eqb _ _ (c .if1 .taken))
 
 returns-2 : tie.Need-returns-2
-returns-2 c = rw (lt-leb _ _ (c .if1 .left))
+returns-2 c = rw (ne-eqb _ _ (c .before .if1 .left), le-leb _ _ (c .if2 .taken))
+
+returns-3 : tie.Need-returns-3
+returns-3 c = rw (ne-eqb _ _ (c .before .if1 .left), lt-leb _ _ (c .if2 .left))
 
 pub smaller-spec : {M : Type 1} → statement M
-smaller-spec = tie.close (tie.spec returns returns-2)
+smaller-spec = tie.close (tie.spec returns returns-2 returns-3)

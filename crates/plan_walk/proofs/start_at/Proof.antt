@@ -1,7 +1,6 @@
--- The plan's refusal comes from reading it whole, the place from its first number.
--- Each arm of the match is one case of the definition.
-use mathlib.Core.Path.{_≡_, refl, sym, ap, _∙_}
-use Rattle.plan_walk.proofs.Walking.{startNumber, start-from}
+-- A refused plan has its number and no place. Else the first row stands after the number of rows.
+-- Each return is one case of the definition.
+use Rattle.plan_walk.proofs.Walking.{start-refused, start-done}
 use borrow.Author.Needs.{needs}
 use Rattle.plan_walk.proofs.start_at.Statement.{statement}
 use Rattle.plan_walk.proofs.start_at.Tie as tie
@@ -9,22 +8,17 @@ use Rattle.plan_walk.proofs.start_at.Tie as tie
 read-plan-requires : tie.Need-read-plan-requires
 read-plan-requires c κs = search needs
 
-number-at-requires : tie.Need-number-at-requires
-number-at-requires c κs = search needs
-
-enum-known-next : tie.Need-enum-known-next
-enum-known-next c = search needs
-
-enum-told : tie.Need-enum-told
-enum-told c = search needs
-
 returns : tie.Need-returns
-returns c = let k = c .before .before .before .before .read-plan in sym (ap (startNumber (k .result .refusal)) (c .before .next .given .1)) ∙ start-from _ (k .result) _ (k .ensures) (c .before .before .before .number-at .ensures)
+returns c = let k = c .before .before .read-plan in start-refused _ (k .result) (k .ensures) (c .if1 .taken)
+
+first-row-requires : tie.Need-first-row-requires
+first-row-requires c κs = search needs
 
 returns-2 : tie.Need-returns-2
-returns-2 c = let k = c .before .before .before .read-plan in sym (ap (startNumber (k .result .refusal)) (c .enum-told .given .1)) ∙ start-from _ (k .result) _ (k .ensures) (c .before .before .number-at .ensures)
+returns-2 c =
+    let tested = c .before in
+    let k = tested .before .before .read-plan in
+    start-done _ (k .result) (k .ensures) (tested .if1 .left) _ (c .first-row .ensures)
 
 pub start-at-spec : {M : Type 1} → statement M
-start-at-spec =
-    tie.close
-    (tie.spec read-plan-requires number-at-requires enum-known-next enum-told returns returns-2)
+start-at-spec = tie.close (tie.spec read-plan-requires returns first-row-requires returns-2)

@@ -6,8 +6,10 @@ use native.Mathlib.Omega.{arith}
 use borrow.Author.Needs.{needs}
 use denote.Ref.{now}
 use lib.ListN.{length, getD, drop}
-use Rattle.plan_write.specs.Write.{writtenNumber, lengthOf}
-use Rattle.plan_write.specs.RoundTrip.{groups-short}
+use Rattle.leb128.specs.Number.{maxNumber}
+use Rattle.leb128.specs.Written.{writtenNumber}
+use Rattle.leb128.specs.Laws.Writing.{groups-count, length-is, length-known, length-none}
+use Rattle.plan_write.specs.Write.{lengthOf}
 use Rattle.plan_write.proofs.Rows.{lengthFrom, length-start, length-many, length-more, length-large, length-end}
 use Rattle.plan_write.proofs.plan_length.Statement.{statement}
 use Rattle.plan_write.proofs.plan_length.Tie as tie
@@ -18,39 +20,73 @@ Inv-loop rows n₀ i₀ n i = (i ≤ length rows) × ((n ≤ 3 + 3 * i) × (leng
 abbrev μ-loop : tie.MeasureT-loop
 μ-loop rows n₀ i₀ n i = length rows - i
 
+-- where a turn began, and the function
+abbrev turn : tie.After-number-length2 Inv-loop μ-loop → tie.In-loop Inv-loop μ-loop
+turn n = n .before .before
+
+abbrev start : tie.At-loop Inv-loop μ-loop → tie.Else1 Inv-loop μ-loop
+start t = t .before .before
+
+abbrev rows-of : tie.Else1 Inv-loop μ-loop → tie.Start Inv-loop μ-loop
+rows-of e = e .before .before
+
+-- a turn's row: its length, where it has one
+known : (c : tie.Else2 Inv-loop μ-loop)
+    → let n = c .before in let l = now (rows-of (start (turn n .before)) .args .rows) in let v = getD l (turn n .before .loop .i) 0 in
+    (v ≤ maxNumber) × ((n .number-length2 .result ≡ length (writtenNumber v)) × (n .number-length2 .result ≤ 3))
+known c =
+    let n = c .before in
+    let v = getD (now (rows-of (start (turn n .before)) .args .rows)) (turn n .before .loop .i) 0 in
+    let k = length-known v (n .number-length2 .result) (n .number-length2 .ensures) (c .if2 .left) in
+    (k .0, (k .1, omega (arith, k .1, groups-count 2 v)))
+
 cast-if1 : tie.Need-cast-if1 Inv-loop μ-loop
 cast-if1 c = search needs
 
+no-length-requires : tie.Need-no-length-requires Inv-loop μ-loop
+no-length-requires c κs = search needs
+
 returns : tie.Need-returns Inv-loop μ-loop
-returns c = length-many _ (c .if1 .taken)
+returns c = c .no-length .ensures ∙ length-many _ (c .before .if1 .taken)
 
-cast-group-count : tie.Need-cast-group-count Inv-loop μ-loop
-cast-group-count c = search needs
+cast-number-length : tie.Need-cast-number-length Inv-loop μ-loop
+cast-number-length c = search needs
 
-group-count-requires : tie.Need-group-count-requires Inv-loop μ-loop
-group-count-requires c κs = omega (arith, c .if1 .left)
+number-length-requires : tie.Need-number-length-requires Inv-loop μ-loop
+number-length-requires c κs = search needs
 
 loop-holds : tie.Need-loop-holds Inv-loop μ-loop
 loop-holds c =
-    let l = now (c .before .before .before .args .rows) in
-    let k : length l % 4294967296 ≡ length l = omega (arith, c .before .if1 .left) in
-    let e : c .group-count .result ≡ length (writtenNumber (length l)) = rw k at (c .group-count .ensures) in
-    (omega arith, (omega (arith, groups-short 2 (length l)), rw e (length-start l (c .before .if1 .left))))
+    let l = now (rows-of (c .before) .args .rows) in
+    let few : length l ≤ 4096 = omega (arith, c .before .if1 .left) in
+    let k : length l % 4294967296 ≡ length l = omega arith in
+    let e : c .number-length .result ≡ length (writtenNumber (length l)) = (rw k at (c .number-length .ensures)) ∙ length-is (length l) (omega arith) in
+    (omega arith, (omega (arith, e, groups-count 2 (length l)), rw e (length-start l few)))
 
-mul-v : tie.Need-mul-v Inv-loop μ-loop
-mul-v c = search needs
+mul-number-length : tie.Need-mul-number-length Inv-loop μ-loop
+mul-number-length c = search needs
 
-shared-slice-read-v : tie.Need-shared-slice-read-v Inv-loop μ-loop
-shared-slice-read-v c = search needs
+shared-slice-read-number-length : tie.Need-shared-slice-read-number-length Inv-loop μ-loop
+shared-slice-read-number-length c = search needs
+
+number-length-requires-2 : tie.Need-number-length-requires-2 Inv-loop μ-loop
+number-length-requires-2 c κs = search needs
+
+no-length-requires-2 : tie.Need-no-length-requires-2 Inv-loop μ-loop
+no-length-requires-2 c κs = search needs
 
 returns-2 : tie.Need-returns-2 Inv-loop μ-loop
-returns-2 c = let l = c .before .before .before .loop in sym (length-large (l .i) (now (c .before .before .before .before .before .before .before .args .rows)) (c .before .before .loop-test .taken) (l .length) (c .if2 .taken)) ∙ l .inv .1 .1
-
-group-count-requires-2 : tie.Need-group-count-requires-2 Inv-loop μ-loop
-group-count-requires-2 c κs = omega (arith, c .if2 .left)
+returns-2 c =
+    let n = c .before .before in
+    let l = turn n .before .loop in
+    let rows = now (rows-of (start (turn n .before)) .args .rows) in
+    let large = length-none (getD rows (l .i) 0) (n .number-length2 .result) (n .number-length2 .ensures) (c .before .if2 .taken) in
+    c .no-length2 .ensures ∙ sym (length-large (l .i) rows (turn n .loop-test .taken) (l .length) large) ∙ l .inv .1 .1
 
 add-length : tie.Need-add-length Inv-loop μ-loop
-add-length c = omega (arith, c .group-count2 .ensures, groups-short 2 (getD (now (c .before .before .before .before .before .before .before .before .args .rows)) (c .before .before .before .before .loop .i) 0), c .before .before .before .before .loop .inv .1 .0, c .before .before .before .before .before .before .if1 .left)
+add-length c =
+    let t = turn (c .before) in
+    omega (arith, known c, t .before .loop .inv .1 .0, t .loop-test .taken, start (t .before) .if1 .left)
 
 add-i : tie.Need-add-i Inv-loop μ-loop
 add-i c = search needs
@@ -60,17 +96,21 @@ loop-less c = search needs
 
 loop-again : tie.Need-loop-again Inv-loop μ-loop
 loop-again c =
-    let l = c .before .before .before .before .loop in
-    let rows = now (c .before .before .before .before .before .before .before .before .args .rows) in (
-      omega arith,
+    let t = turn (c .before) in
+    let l = t .before .loop in
+    let rows = now (rows-of (start (t .before)) .args .rows) in
+    let k = known c in (
+      omega (arith, t .loop-test .taken),
       (
-        omega (arith, c .group-count2 .ensures, groups-short 2 (getD rows (l .i) 0), l .inv .1 .0),
-        rw (c .group-count2 .ensures) (sym (length-more (l .i) rows (c .before .before .before .loop-test .taken) (l .length) (c .before .if2 .left)) ∙ l .inv .1 .1),
+        omega (arith, k, l .inv .1 .0),
+        rw (k .1 .0) (sym (length-more (l .i) rows (t .loop-test .taken) (l .length) (k .0)) ∙ l .inv .1 .1),
       ),
     )
 
 returns-3 : tie.Need-returns-3 Inv-loop μ-loop
-returns-3 c = let l = c .before .loop in sym (length-end (l .i) (l .length) (now (c .before .before .before .before .before .args .rows)) (c .loop-test .left)) ∙ l .inv .1 .1
+returns-3 c =
+    let t = c .before in
+    sym (length-end (t .loop .i) (t .loop .length) (now (rows-of (start t) .args .rows)) (c .loop-test .left)) ∙ t .loop .inv .1 .1
 
 pub plan-length-spec : {M : Type 1} → statement M
 plan-length-spec =
@@ -79,14 +119,16 @@ plan-length-spec =
     Inv-loop
     μ-loop
     cast-if1
+    no-length-requires
     returns
-    cast-group-count
-    group-count-requires
+    cast-number-length
+    number-length-requires
     loop-holds
-    mul-v
-    shared-slice-read-v
+    mul-number-length
+    shared-slice-read-number-length
+    number-length-requires-2
+    no-length-requires-2
     returns-2
-    group-count-requires-2
     add-length
     add-i
     loop-less

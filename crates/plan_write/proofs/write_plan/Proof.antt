@@ -4,48 +4,87 @@ use Prim.Native.Nat.{ℕ, _≤_, _<_, _+_, _%_}
 use mathlib.Core.Path.{_≡_, refl, sym, ap, _∙_}
 use native.Mathlib.Omega.{arith}
 use denote.Ref.{now}
+use mathlib.Core.List.{List}
 use lib.ListN.{length}
-use Rattle.plan_write.specs.Write.{writtenNumber, writtenRows}
-use Rattle.plan_write.specs.RoundTrip.{plan-length}
+use lib.Seq.{sets}
+use Rattle.leb128.specs.Written.{writtenNumber}
+use Rattle.leb128.specs.Laws.Writing.{past-written, is-written}
+use Rattle.plan_write.specs.Write.{writtenRows}
+use Rattle.plan_write.specs.WriteLaws.{plan-length}
 use Rattle.plan_write.proofs.Rows.{known-length, known-rows, other-length, all-written, not-allowed}
 use borrow.Author.Needs.{needs}
 use Rattle.plan_write.proofs.write_plan.Statement.{statement}
 use Rattle.plan_write.proofs.write_plan.Tie as tie
 
+abbrev start : tie.After-plan-length → tie.Start
+start p = p .before .before .before
+
+-- the length that was asked for, past the first test
+abbrev asked : tie.Else1 → tie.After-plan-length
+asked e = e .before .before
+
+-- past both tests, and then the number of rows written
+abbrev tested : tie.Else2 → tie.Else1
+tested e = e .before .before
+
+abbrev counted : tie.After-write-number → tie.Else2
+counted w = w .before .before
+
+-- the number of rows is written where the rows are to begin
+record Counted (l out : List ℕ) (first : ℕ) (stored : List ℕ) : Type 0 where
+  place : first ≡ length (writtenNumber (length l))
+  stores : stored ≡ sets out 0 (writtenNumber (length l))
+  room : first + length (writtenRows l) ≤ length out
+
+count-written : (w : tie.After-write-number) → let a = start (asked (tested (counted w))) .args in
+    Counted (now (a .rows)) (now (a .out)) (w .write-number .result) (w .write-number .last .0)
+count-written w =
+    let e = counted w in
+    let p = asked (tested e) in
+    let a = start p .args in
+    let l = now (a .rows) in
+    let z = tested e .if1 .left in
+    let few = known-rows l (p .plan-length .result) (p .plan-length .ensures) z .0 in
+    let k : length (now (a .rows)) % 4294967296 ≡ length (now (a .rows)) = omega (arith, few) in
+    let all : length (writtenNumber (length (now (a .rows)))) + length (writtenRows (now (a .rows))) ≡ length (now (a .out)) =
+    omega (arith, plan-length l, known-length l (p .plan-length .result) (p .plan-length .ensures) z, e .if2 .left) in
+    let room : 0 + length (writtenNumber (length (now (a .rows)))) ≤ length (now (a .out)) = omega arith in
+    let past = (rw k at (w .write-number .ensures .0)) ∙ past-written 0 (length l) (omega (arith, few)) (now (a .out)) room in
+    let first : w .write-number .result ≡ length (writtenNumber (length (now (a .rows)))) = omega (arith, past) in
+    record {
+      place = first;
+      stores = (rw k at (w .write-number .ensures .1)) ∙ is-written 0 (length l) (omega (arith, few)) (now (a .out)) room;
+      room = omega arith;
+    }
+
 plan-length-requires : tie.Need-plan-length-requires
 plan-length-requires c κs = search needs
 
 returns : tie.Need-returns
-returns c = let a = c .before .before .before .before .before .args in not-allowed (now (a .rows)) (now (a .out)) (c .before .before .plan-length .result) (c .before .before .plan-length .ensures) (c .if1 .taken)
+returns c =
+    let p = c .before .before in
+    not-allowed (now (start p .args .rows)) (now (start p .args .out)) (p .plan-length .result) (p .plan-length .ensures) (c .if1 .taken)
 
 returns-2 : tie.Need-returns-2
-returns-2 c = let a = c .before .before .before .before .before .before .before .args in other-length (now (a .rows)) (c .before .before .before .before .plan-length .result) (c .before .before .before .before .plan-length .ensures) (c .before .before .if1 .left) (now (a .out)) (c .if2 .taken)
+returns-2 c =
+    let e = c .before .before in
+    let p = asked e in
+    other-length (now (start p .args .rows)) (p .plan-length .result) (p .plan-length .ensures) (e .if1 .left) (now (start p .args .out)) (c .if2 .taken)
 
-cast-put-number : tie.Need-cast-put-number
-cast-put-number c = search needs
+cast-write-number : tie.Need-cast-write-number
+cast-write-number c = search needs
 
-put-number-requires : tie.Need-put-number-requires
-put-number-requires c κs =
-    let l = now (c .before .before .before .before .before .before .before .before .args .rows) in
-    let p = c .before .before .before .before .before .plan-length in
-    let few = known-rows l (p .result) (p .ensures) (c .before .before .before .if1 .left) .0 in
-    let k : length l % 4294967296 ≡ length l = omega (arith, few) in
-    record {
-      small = omega (arith, few);
-      room = rw k (omega (arith, plan-length l, known-length l (p .result) (p .ensures) (c .before .before .before .if1 .left), c .before .if2 .left));
-    }
+write-number-requires : tie.Need-write-number-requires
+write-number-requires c κs = search needs
 
 put-rows-requires : tie.Need-put-rows-requires
 put-rows-requires c κs =
-    let l = now (c .before .before .before .before .before .before .before .before .before .before .before .before .args .rows) in
-    let p = c .before .before .before .before .before .before .before .before .before .plan-length in
-    let known = known-rows l (p .result) (p .ensures) (c .before .before .before .before .before .before .before .if1 .left) in
-    let put = c .before .before .before .put-number in
-    let k : length l % 4294967296 ≡ length l = omega (arith, known .0) in
-    let first : put .result ≡ 0 + length (writtenNumber (length l)) = rw k at (put .ensures .0) in
+    let w = c .before .before .before in
+    let e = tested (counted w) in
+    let p = asked e in
     record {
-      small = known .1;
-      room = omega (arith, first, put .kept .0, plan-length l, known-length l (p .result) (p .ensures) (c .before .before .before .before .before .before .before .if1 .left), c .before .before .before .before .before .if2 .left);
+      small = known-rows (now (start p .args .rows)) (p .plan-length .result) (p .plan-length .ensures) (e .if1 .left) .1;
+      room = omega (arith, count-written w .room, w .write-number .kept .0);
     }
 
 same-length : tie.Need-same-length
@@ -53,14 +92,15 @@ same-length c = search needs
 
 returns-3 : tie.Need-returns-3
 returns-3 c =
-    let a = c .before .before .before .before .before .before .before .before .before .before .before .before .before .before .before .args in
-    let l = now (a .rows) in
-    let p = c .before .before .before .before .before .before .before .before .before .before .before .before .plan-length in
-    let known = known-rows l (p .result) (p .ensures) (c .before .before .before .before .before .before .before .before .before .before .if1 .left) in
-    let put = c .before .before .before .before .before .before .put-number in
-    let k : length l % 4294967296 ≡ length l = omega (arith, known .0) in
-    let first : put .result ≡ length (writtenNumber (length l)) = rw k at (put .ensures .0) ∙ omega arith in
-    all-written l (p .result) (p .ensures) (c .before .before .before .before .before .before .before .before .before .before .if1 .left) (now (a .out)) _ _ (omega (arith, c .before .before .before .before .before .before .before .before .if2 .left)) (rw k at (put .ensures .1)) (rw first at (c .before .before .put-rows .ensures))
+    let r = c .before .before in
+    let w = r .before .before .before .before in
+    let e = tested (counted w) in
+    let p = asked e in
+    let a = start p .args in
+    let n = count-written w in
+    all-written (now (a .rows)) (p .plan-length .result) (p .plan-length .ensures) (e .if1 .left) (now (a .out)) _ _
+    (omega (arith, counted w .if2 .left)) (n .stores)
+    (rw (n .place) at (r .put-rows .ensures))
 
 pub write-plan-spec : {M : Type 1} → statement M
 write-plan-spec =
@@ -69,8 +109,8 @@ write-plan-spec =
     plan-length-requires
     returns
     returns-2
-    cast-put-number
-    put-number-requires
+    cast-write-number
+    write-number-requires
     put-rows-requires
     same-length
     returns-3)

@@ -123,22 +123,22 @@ pub struct Walks {
 }
 
 impl Walks {
-    /// The plan is kept for good, since the walk borrows it.
-    pub fn begin(&mut self, [plan]: [&str; 1], answer: [&str; 1]) -> Compared {
+    /// The plan is kept for good, since the walk borrows it. The walk's place is its own.
+    pub fn begin(&mut self, [plan]: [&str; 1], [number, _place]: [&str; 2]) -> Compared {
         let walk = self.last.insert(Walk::new(bytes(plan).leak()));
         if walk.as_ref().is_ok_and(|walk| walk.len() != walk.clone().count()) {
             return Err("the walk's length is not the number of its rows".into());
         }
-        same(&answer, number_of(walk))?;
+        same(&[number], number_of(walk))?;
         Ok(walk.as_ref().err().copied())
     }
 
     /// The package has no walk of a refused plan, so there the answer is made of the plan's refusal.
-    pub fn step(&mut self, answer: [&str; 2]) -> Compared {
+    pub fn step(&mut self, [number, destination, _place]: [&str; 3]) -> Compared {
         let found = match self.last.as_mut().ok_or("no plan_start stands before")? {
             Ok(walk) => walk.next().map_or("10 0".into(), |destination| format!("0 {destination}")),
             Err(refusal) => format!("{} 0", refusal.number()),
         };
-        same(&answer, found).map(|()| None)
+        same(&[number, destination], found).map(|()| None)
     }
 }

@@ -1,0 +1,4 @@
+pub mod Lookup
+pub mod Rows
+pub mod Places
+pub mod Refusals

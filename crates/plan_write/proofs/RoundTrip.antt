@@ -1,0 +1,71 @@
+-- Reading what was written gives the rows: the plan's bytes read as the rows, whose lookups are the list's.
+use mathlib.Core.Path.{_≡_, refl, sym, ap, _∙_}
+use mathlib.Core.List.{List}
+use mathlib.Core.Bool.{Bool, true, false, cond, _&&_}
+use Prim.Native.Nat.{ℕ, zero, suc, _≤_, _<_}
+use native.Mathlib.Omega.{arith}
+use lib.ListN.{length, getD}
+use lib.Dec.{ltb, leb, eqb}
+use borrow.Author.Tests.{ltb-true, ltb-false, leb-true, eq-eqb}
+use Rattle.leb128.specs.Written.{writtenNumber}
+use Rattle.plan.specs.Limits.{maxRows}
+use Rattle.plan.specs.Plan.{rows, planOf}
+use Rattle.plan.specs.Answers.{lookupOf, noDestination}
+use Rattle.plan.specs.Laws.Lookup.{lookup-row, lookup-zero, lookup-past, count-rows}
+use Rattle.plan.specs.declared.Row.{Row}
+use Rattle.plan.specs.declared.Lookup.{Lookup}
+use Rattle.plan_write.specs.Write.{writtenPlan, rowsAllowed, allowed, lengthIs, noLength, lengthOf, fills, writeRefusal, writtenOf}
+use Rattle.plan_write.specs.RoundTrip.{lookupIn, ReadsAs, RoundTrip}
+use Rattle.plan_write.specs.WriteLaws.{and-left, and-right, placed, placed-length, placed-row, plan-back}
+use Rattle.plan_write.specs.declared.PlanLength.{PlanLength}
+
+-- rows that keep the rules: their plan answers as they do
+module _ (l : List ℕ) (ok : allowed l ≡ true) where
+  abbrev d : List Row
+  d = placed (length (writtenNumber (length l))) l
+
+  plan-rows : planOf (writtenPlan l) ≡ rows d
+  unfolding allowed
+  plan-rows =
+      plan-back l (leb-true _ _ (and-left (leb (length l) maxRows) (rowsAllowed l) ok)) (and-right (leb (length l) maxRows) (rowsAllowed l) ok)
+
+  same-length : length d ≡ length l
+  same-length = placed-length (length (writtenNumber (length l))) l
+
+  every : (chute : ℕ) → lookupOf (writtenPlan l) chute ≡ lookupIn l chute
+  every zero = lookup-zero (writtenPlan l) d plan-rows
+  every (suc c) = go (ltb c (length l)) refl
+    where
+      go : (t : Bool) → ltb c (length l) ≡ t
+          → lookupOf (writtenPlan l) (suc c) ≡ cond {A = Lookup} t (record { number = 0; destination = getD l c 0 }) (noDestination 10)
+      go true e =
+          let h : c < length l = ltb-true _ _ e in
+          let g : c < length d = omega (arith, same-length) in
+          lookup-row (writtenPlan l) d plan-rows c g ∙ rw (placed-row (length (writtenNumber (length l))) l c)
+      go false e =
+          let h : length l ≤ c = ltb-false _ _ e in
+          lookup-past (writtenPlan l) d plan-rows (suc c) (omega (arith, same-length))
+
+  reads-as : ReadsAs l (writtenPlan l)
+  reads-as = record { count = count-rows (writtenPlan l) d plan-rows ∙ rw same-length; every-chute = every }
+
+written-reads : (l out : List ℕ) → writeRefusal l (length out) ≡ 0 → ReadsAs l (writtenOf l out)
+unfolding writeRefusal writtenOf fills
+written-reads l out e = go (allowed l) (eqb (length (writtenPlan l)) (length out)) refl e
+  where
+    go : (a b : Bool) → allowed l ≡ a → _≡_ {A = ℕ} (cond (a && b) 0 9) 0 → ReadsAs l (cond (a && b) (writtenPlan l) out)
+    go true true ok q = reads-as l ok
+    go true false ok q = absurd (omega arith)
+    go false b ok q = absurd (omega arith)
+
+accepted : (l : List ℕ) → lengthOf l .number ≡ 0 → writeRefusal l (lengthOf l .length) ≡ 0
+unfolding lengthOf writeRefusal fills
+accepted l = go (allowed l)
+  where
+    go : (a : Bool) → cond {A = PlanLength} a (lengthIs (length (writtenPlan l))) noLength .number ≡ 0
+        → _≡_ {A = ℕ} (cond (a && eqb (length (writtenPlan l)) (cond {A = PlanLength} a (lengthIs (length (writtenPlan l))) noLength .length)) 0 9) 0
+    go true e = rw (eq-eqb (length (writtenPlan l)) (length (writtenPlan l)) refl)
+    go false e = absurd (omega arith)
+
+pub round-trip : RoundTrip
+round-trip = record { reads-back = written-reads; length-accepted = accepted }

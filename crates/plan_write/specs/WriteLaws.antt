@@ -1,0 +1,66 @@
+-- Laws of a plan written: how long it is, and that it reads as its rows.
+use mathlib.Core.Path.{_≡_, refl, ap}
+use mathlib.Core.List.{List, [], _∷_, _++_}
+use mathlib.Core.Bool.{Bool, true, false, _&&_}
+use Prim.Native.Nat.{ℕ, zero, suc, _+_, _*_, _≤_, _<_}
+use native.Mathlib.Omega.{arith}
+use lib.ListN.{length, getD, length-append}
+use lib.Dec.{leb}
+use borrow.Author.Tests.{le-ltb, le-leb, leb-true}
+use Rattle.leb128.specs.Written.{writtenNumber}
+use Rattle.leb128.specs.Laws.Writing.{groups-count, number-read}
+use Rattle.plan.specs.Limits.{maxPlan, maxRows, maxDestination, padded}
+use Rattle.plan.specs.Plan.{rows, row, rowsFrom, planOf, noRow}
+use Rattle.plan.specs.declared.Row.{Row}
+use Rattle.plan_write.specs.Write.{writtenRows, writtenPlan, rowsAllowed}
+
+pub and-left : (a b : Bool) → (a && b) ≡ true → a ≡ true
+and-left true b e = refl
+and-left false b e = e
+
+pub and-right : (a b : Bool) → (a && b) ≡ true → b ≡ true
+and-right true b e = e
+and-right false b e = cc
+
+-- the rows that are written, from a place on: their destinations are the list
+pub placed : ℕ → List ℕ → List Row
+placed at [] = []
+placed at (v ∷ l) = row v at (at + length (writtenNumber v)) ∷ placed (at + length (writtenNumber v)) l
+
+pub placed-length : (at : ℕ) (l : List ℕ) → length (placed at l) ≡ length l
+unfolding placed
+placed-length at [] = refl
+placed-length at (v ∷ l) = ap suc (placed-length (at + length (writtenNumber v)) l)
+
+pub placed-row : (at : ℕ) (l : List ℕ) (c : ℕ) → getD (placed at l) c noRow .destination ≡ getD l c 0
+unfolding placed
+placed-row at [] c = refl
+placed-row at (v ∷ l) zero = refl
+placed-row at (v ∷ l) (suc c) = placed-row (at + length (writtenNumber v)) l c
+
+rows-back : (at : ℕ) (l : List ℕ) → rowsAllowed l ≡ true → rowsFrom (length l) at (writtenRows l) ≡ rows (placed at l)
+unfolding rowsFrom writtenRows rowsAllowed placed
+rows-back at [] ok = refl
+rows-back at (v ∷ l) ok =
+    let h : v ≤ maxDestination = leb-true v maxDestination (and-left (leb v maxDestination) (rowsAllowed l) ok) in
+    rw (number-read at v h padded (writtenRows l), rows-back (at + length (writtenNumber v)) l (and-right (leb v maxDestination) (rowsAllowed l) ok))
+
+-- a written plan is short
+pub rows-short : (l : List ℕ) → length (writtenRows l) ≤ 3 * length l
+unfolding writtenRows
+rows-short [] = omega arith
+rows-short (v ∷ l) = rw length-append (omega (arith, groups-count 2 v, rows-short l))
+
+pub plan-length : (l : List ℕ) → length (writtenPlan l) ≡ length (writtenNumber (length l)) + length (writtenRows l)
+unfolding writtenPlan
+plan-length l = rw length-append
+
+pub plan-back : (l : List ℕ) → length l ≤ maxRows → rowsAllowed l ≡ true → planOf (writtenPlan l) ≡ rows (placed (length (writtenNumber (length l))) l)
+unfolding planOf writtenPlan
+plan-back l h ok =
+    let n : ℕ = length (writtenNumber (length l)) in
+    let k : length l ≤ maxDestination = omega arith in
+    let z : 0 + n ≡ n = omega arith in
+    let short : length (writtenNumber (length l) ++ writtenRows l) ≤ maxPlan =
+    omega (arith, length-append (writtenNumber (length l)) (writtenRows l), groups-count 2 (length l), rows-short l) in
+    rw (le-ltb _ _ short, number-read 0 (length l) k padded (writtenRows l), z, le-leb _ _ h) (rows-back n l ok)
