@@ -3,7 +3,7 @@
 from callfile import pattern
 
 RATE = 136
-STRING, SHORT, SEED, MOST = 4_096, 84, 65_536, 16_777_216  # document 01's limits
+STRING, SHORT, SEED, MOST = 4_096, 84, 65_536, 16_777_216  # docs/RULES.md's limits
 WRITTEN_OUT = 700  # longer strings are patterns, so that the file stays small
 
 # Lengths of a name, key or customisation where an encoding or a padding changes: 31 and 32 bytes are 248 and 256 bits, 8,191 is past every limit, and

@@ -6,7 +6,7 @@ from choose import SEED
 
 ROWS, LARGEST = 4_096, 2_097_151
 VALUES = [0, 1, 127, 128, 300, 16_383, 16_384, 2_097_150, LARGEST]
-FAR = [0, ROWS, ROWS + 1, 2**31, 2**32 - 1, 2**32, 2**32 + 1, 2**64 - 1]  # chutes of other plans, or of none
+FAR = [0, ROWS, ROWS + 1, 2**31, 2**32 - 1, 2**32, 2**32 + 1, 2**63, 2**64 - 1]  # chutes of other plans, or of none
 SOURCES = [None, "site", "house"]
 
 

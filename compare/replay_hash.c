@@ -44,7 +44,7 @@ static bool stepped(hf_step step, const char *number)
 {
     bool kept = memcmp(step.session.lanes, session.lanes, sizeof session.lanes) == 0 && step.session.taken == session.taken &&
                 step.session.given == session.given && step.session.limit == session.limit && step.session.position == session.position &&
-                step.session.phase == session.phase && step.session.suffix == session.suffix && step.session.keyed == session.keyed;
+                step.session.phase == session.phase && step.session.suffix == session.suffix && step.session.kmac == session.kmac;
     session = step.session;
     return step.number == number_of(number) && (step.number == 0 || kept);
 }

@@ -40,7 +40,7 @@ static bool start(char *const *f, const buffer *plan)
 
 static bool step(char *const *f)
 {
-    hf_walk found = hf_plan_step(walked.bytes, walked.length, walk.at, walk.number);
+    hf_walk found = hf_plan_step(walked.bytes, walked.length, walk);
     bool same = found.number == number_of(f[1]) && found.destination == number_of(f[2]) && found.next == number_of(f[3]);
     walk.at = found.next;
     return same && edges_stand(&walked);

@@ -1,15 +1,17 @@
 /* Hailfeather: Keccak-p[1600, 24], cSHAKE256, KMAC256 and KMACXOF256 in one call and in running sessions, sealing and opening by the KMAC AEAD, the
  * cSHAKE generator, and chute plans. Link with libhailfeather.a (x86-64), which needs nothing but the C library's memory functions.
  *
- * Pointers. Every pointer to bytes or rows is followed by the number of its elements. No pointer may be null, also where there are no elements. A buffer
- * that a function writes must not overlap any other buffer of the same call; buffers that are only read may overlap. No pointer is kept after a call.
+ * Pointers. Every pointer to bytes or rows is followed by the number of its elements. No pointer may be null, also where there are no elements: lend
+ * HF_NOTHING, or any other pointer that is not null, with the length 0. Compilers that know the attribute warn of a null pointer. Bytes need no alignment; rows
+ * and lanes are aligned as their types ask. A buffer that a function writes must not overlap any other buffer of the same call, so nothing is sealed, opened or
+ * hashed in place; buffers that are only read may overlap. No pointer is kept after a call.
  *
- * State. Nothing is kept between calls and no memory is asked for but less than 4 KiB of stack, so any thread may call at any time. A session and a generator
+ * State. Nothing is kept between calls and no memory is asked for but at most 4 KiB of stack, so any thread may call at any time. A session and a generator
  * are plain values: pass one in, and put the one that is handed back in its place. A copy is a second session or generator that goes on from the same point,
  * so never draw from two copies of one generator. Both hold secrets: overwrite them when they are no longer needed. Only pass in what a function of this
  * header handed back; of one made up by hand nothing is promised but that the call is safe, returns, and writes only the output lent to it.
  *
- * Numbers. What a call hands back has a number: 0 is done, any other is a refusal. Where several apply the smallest is given:
+ * Numbers. What a call hands back has a number, which hf_number names: 0 is done, any other is a refusal. Where several apply the smallest is given:
  *    0  done
  *    1  a session that is giving was asked to take, be it an empty piece; or a draw from a generator that was never seeded
  *    2  a KMAC256 or KMACXOF256 key is longer than 4,096 bytes; or a sealing key is not 32 bytes
@@ -27,7 +29,8 @@
  * a number of rows are 0. So a return value may be put in place of the old one whatever its number is. The one exception is a session that could not
  * start: it is handed back giving, with nothing to give.
  *
- * Not promised: that the time a call takes is independent of secrets (tags are compared up to the first byte that differs).
+ * Time. Of this archive, on an x86-64 processor, tests/secrets found no branch and no address that depends on a key, a text, a seed or a state, but the one
+ * branch of hf_open on whether the tag matches, which it answers. Nothing of that is proved, and another compiler or processor may differ.
  */
 #ifndef HAILFEATHER_H
 #define HAILFEATHER_H
@@ -39,6 +42,55 @@
 extern "C" {
 #endif
 
+/* The version of this header, 0.1.0; hf_version tells that of the archive, and the two are to be equal. */
+#define HF_VERSION 100u
+uint32_t hf_version(void);
+
+/* Nothing to lend: a pointer that is not null, for a length of 0. */
+#ifdef __cplusplus
+#define HF_NOTHING ((uint8_t *)64)
+#else
+#define HF_NOTHING ((void *)64)
+#endif
+
+/* No pointer of the function may be null. */
+#if defined __GNUC__
+#define HF_NONNULL __attribute__((nonnull))
+#else
+#define HF_NONNULL
+#endif
+
+/* The numbers. */
+enum hf_number {
+    HF_DONE = 0,
+    HF_WRONG_STATE = 1,
+    HF_BAD_KEY_LENGTH = 2,
+    HF_STRING_TOO_LONG = 3,
+    HF_RESERVED_NAME = 4,
+    HF_INPUT_TOO_LONG = 5,
+    HF_BAD_OUTPUT_LENGTH = 6,
+    HF_BAD_TAG_LENGTH = 7,
+    HF_TAG_MISMATCH = 8,
+    HF_MALFORMED_PLAN = 9,
+    HF_NO_SUCH_CHUTE = 10
+};
+
+/* The limits, in bytes unless said otherwise. */
+#define HF_MAX_KEY 4096           /* a KMAC key */
+#define HF_MAX_NAME 4096          /* a name */
+#define HF_MAX_CUSTOMISATION 4096 /* a customisation or an IV */
+#define HF_MAX_MESSAGE 16777216   /* a message, in a session in all; text and label together */
+#define HF_MAX_OUTPUT 16777216    /* an output, in a session in all; a draw */
+#define HF_SEALING_KEY 32         /* a sealing key has exactly so many */
+#define HF_MIN_TAG 16
+#define HF_MAX_TAG 64
+#define HF_MAX_SEED 65536
+#define HF_MAX_PERSONALISATION 84
+#define HF_MAX_ADDITIONAL 84
+#define HF_MAX_PLAN 65536           /* a plan to be read */
+#define HF_MAX_ROWS 4096            /* rows */
+#define HF_MAX_DESTINATION 2097151u /* the greatest destination */
+
 /* ---- Keccak-p, cSHAKE256, KMAC256, KMACXOF256 in one call (FIPS 202, SP 800-185) ---- */
 typedef struct {
     size_t runs; /* the permutations that the call takes by its definition; 0 on a refusal */
@@ -46,21 +98,21 @@ typedef struct {
 } hf_outcome;
 
 /* Keccak-p[1600, 24] of 25 lanes where they stand: the lane (x, y) is lanes[5 * y + x]. */
-void hf_keccak_p(uint64_t lanes[25]);
+void hf_keccak_p(uint64_t lanes[25]) HF_NONNULL;
 
 /* cSHAKE256 (SP 800-185, 3): fills out. With no name and no customisation it is SHAKE256. A shorter output is the beginning of a longer one, and an
    output of no bytes is accepted. Refuses with 3, 4, 5, 6. */
 hf_outcome hf_cshake256(const uint8_t *name, size_t name_length, const uint8_t *customisation, size_t customisation_length,
-                        const uint8_t *message, size_t message_length, uint8_t *out, size_t out_length);
+                        const uint8_t *message, size_t message_length, uint8_t *out, size_t out_length) HF_NONNULL;
 
 /* KMAC256 (SP 800-185, 4): fills out. The output's length is part of what is authenticated, and may not be 0. Refuses with 2, 3, 5, 6. */
 hf_outcome hf_kmac256(const uint8_t *key, size_t key_length, const uint8_t *customisation, size_t customisation_length,
-                      const uint8_t *message, size_t message_length, uint8_t *out, size_t out_length);
+                      const uint8_t *message, size_t message_length, uint8_t *out, size_t out_length) HF_NONNULL;
 
 /* KMACXOF256 (SP 800-185, 4.3.1): fills out. A shorter output is the beginning of a longer one, and an output of no bytes is accepted. Refuses with
    2, 3, 5, 6. */
 hf_outcome hf_kmacxof256(const uint8_t *key, size_t key_length, const uint8_t *customisation, size_t customisation_length,
-                         const uint8_t *message, size_t message_length, uint8_t *out, size_t out_length);
+                         const uint8_t *message, size_t message_length, uint8_t *out, size_t out_length) HF_NONNULL;
 
 /* ---- Running sessions over cSHAKE256 and KMACXOF256 ----
  * A session takes the message in pieces and then gives the output in portions. The bytes given, joined, are the first bytes of what the one call gives
@@ -73,7 +125,7 @@ typedef struct {
     size_t position;    /* the place of the next byte in the block of 136 bytes */
     uint8_t phase;      /* 0: taking; 1 (or any other number): giving */
     uint8_t suffix;     /* the byte after the message: 1F for SHAKE256, else 04; 0 for a session that could not start */
-    uint8_t keyed;      /* 1 for KMACXOF256 (any number but 0 is read as 1), 0 for cSHAKE256 */
+    uint8_t kmac;       /* 1 for KMACXOF256 (any number but 0 is read as 1), 0 for cSHAKE256 */
 } hf_session;
 
 typedef struct {
@@ -82,13 +134,13 @@ typedef struct {
 } hf_step;
 
 /* Starts a session of cSHAKE256. Refuses with 3, 4. */
-hf_step hf_session_cshake256(const uint8_t *name, size_t name_length, const uint8_t *customisation, size_t customisation_length);
+hf_step hf_session_cshake256(const uint8_t *name, size_t name_length, const uint8_t *customisation, size_t customisation_length) HF_NONNULL;
 /* Starts a session of KMACXOF256. Refuses with 2, 3. */
-hf_step hf_session_kmacxof256(const uint8_t *key, size_t key_length, const uint8_t *customisation, size_t customisation_length);
+hf_step hf_session_kmacxof256(const uint8_t *key, size_t key_length, const uint8_t *customisation, size_t customisation_length) HF_NONNULL;
 /* Takes a piece of the message. An empty piece changes nothing. Refuses with 1, 5. */
-hf_step hf_session_take(hf_session session, const uint8_t *piece, size_t piece_length);
+hf_step hf_session_take(hf_session session, const uint8_t *piece, size_t piece_length) HF_NONNULL;
 /* Fills out with the next bytes of output. Refuses with 6. */
-hf_step hf_session_give(hf_session session, uint8_t *out, size_t out_length);
+hf_step hf_session_give(hf_session session, uint8_t *out, size_t out_length) HF_NONNULL;
 
 /* ---- Sealing and opening ----
  * The count of runs is the sum over the two calls of KMACXOF256 that each is made of. The label is authenticated with the text and not encrypted. The tag
@@ -97,12 +149,12 @@ hf_step hf_session_give(hf_session session, uint8_t *out, size_t out_length);
 /* Seals text under a key of 32 bytes and an IV (never twice with one key and one IV): the ciphertext into out, as long as the text, and a tag of 16 to 64
    bytes over ciphertext and label into tag. A shorter tag is the beginning of a longer one. Refuses with 2, 3, 5, 6, 7. */
 hf_outcome hf_seal(const uint8_t *key, size_t key_length, const uint8_t *iv, size_t iv_length, const uint8_t *text, size_t text_length,
-                   const uint8_t *label, size_t label_length, uint8_t *out, size_t out_length, uint8_t *tag, size_t tag_length);
+                   const uint8_t *label, size_t label_length, uint8_t *out, size_t out_length, uint8_t *tag, size_t tag_length) HF_NONNULL;
 
 /* Opens what was sealed with the same key, IV and label: compares the tag first, and writes the text into out only if it is the one worked out afresh.
    Refuses with 2, 3, 5, 6, 7, 8. */
 hf_outcome hf_open(const uint8_t *key, size_t key_length, const uint8_t *iv, size_t iv_length, const uint8_t *ciphertext, size_t ciphertext_length,
-                   const uint8_t *label, size_t label_length, uint8_t *out, size_t out_length, const uint8_t *tag, size_t tag_length);
+                   const uint8_t *label, size_t label_length, uint8_t *out, size_t out_length, const uint8_t *tag, size_t tag_length) HF_NONNULL;
 
 /* ---- The cSHAKE generator ---- It gathers no randomness: all of it comes from the seeds. */
 typedef struct {
@@ -120,11 +172,12 @@ typedef struct {
 hf_generator hf_generator_fresh(void);
 /* Makes a new key of the old one, the seed and the personalisation (at most 84 bytes). It may be done again at any time; an empty seed is accepted and
    counts as a seeding. Refuses with 3, 5. */
-hf_draw hf_generator_seed(hf_generator generator, const uint8_t *seed, size_t seed_length, const uint8_t *personalisation, size_t personalisation_length);
+hf_draw hf_generator_seed(hf_generator generator, const uint8_t *seed, size_t seed_length, const uint8_t *personalisation,
+                          size_t personalisation_length) HF_NONNULL;
 
 /* Fills out, with an additional input of at most 84 bytes, in pieces of 208 bytes, and makes a new key with each; 3 runs a piece. Two draws of 10 bytes
    are not one of 20. A draw of no bytes is accepted and leaves the key. Refuses with 1, 3, 6. */
-hf_draw hf_generator_draw(hf_generator generator, const uint8_t *additional, size_t additional_length, uint8_t *out, size_t out_length);
+hf_draw hf_generator_draw(hf_generator generator, const uint8_t *additional, size_t additional_length, uint8_t *out, size_t out_length) HF_NONNULL;
 
 /* ---- Chute plans ----
  * A plan is the number of its rows (at most 4,096), then the destination of each, then nothing more. A number stands in one to three groups of seven bits,
@@ -141,10 +194,13 @@ typedef struct {
     uint8_t number;
 } hf_destination;
 
+/* Which plan a row is of: neither on a refusal. */
+enum hf_source { HF_NEITHER = 0, HF_SITE = 1, HF_HOUSE = 2 };
+
 typedef struct {
     size_t start;   /* the row's bytes are plan[start] to plan[start + length - 1] of the plan that source names */
     size_t length;  /* 1 to 3; 0 on a refusal, and then start is 0 too */
-    uint8_t source; /* 1: the site plan; 2: the house plan; 0: neither, on a refusal */
+    uint8_t source; /* one of hf_source */
     uint8_t number;
 } hf_row;
 
@@ -154,8 +210,8 @@ typedef struct {
 } hf_length;
 
 typedef struct {
-    size_t at;      /* the place of the first row in the plan; of no use on a refusal */
-    uint8_t number; /* 0, or the plan's refusal: lend both to hf_plan_step */
+    size_t at;      /* the place of the first row in the plan; 0 on a refusal */
+    uint8_t number; /* 0, or the plan's refusal */
 } hf_cursor;
 
 typedef struct {
@@ -165,33 +221,34 @@ typedef struct {
 } hf_walk;
 
 /* How many rows a plan has. Refuses with 5, 9. */
-hf_rows hf_plan_read(const uint8_t *plan, size_t plan_length);
+hf_rows hf_plan_read(const uint8_t *plan, size_t plan_length) HF_NONNULL;
 
-/* The destination of one chute. Refuses with 5, 9, 10: the last where chute is 0 or greater than this plan's number of rows. */
-hf_destination hf_plan_destination(const uint8_t *plan, size_t plan_length, uint64_t chute);
+/* The destination of one chute. Refuses with 5, 9, 10: the last where chute is 0 or greater than this plan's number of rows. A chute has 64 bits so that no
+   number that a program has is cut to a chute of the plan. */
+hf_destination hf_plan_destination(const uint8_t *plan, size_t plan_length, uint64_t chute) HF_NONNULL;
 
 /* Where the bytes of a chute's row are: in the site plan if it has that chute, else in the house plan. Refuses with 5, 9, 10: the first two where either
    plan is bad, the last where neither has the chute. */
-hf_row hf_plan_row(const uint8_t *site, size_t site_length, const uint8_t *house, size_t house_length, uint64_t chute);
+hf_row hf_plan_row(const uint8_t *site, size_t site_length, const uint8_t *house, size_t house_length, uint64_t chute) HF_NONNULL;
 
 /* How many bytes the plan with these destinations takes. Refuses with 9 where there are more than 4,096 rows or one is greater than 2,097,151. */
-hf_length hf_plan_length(const uint32_t *rows, size_t rows_length);
+hf_length hf_plan_length(const uint32_t *rows, size_t rows_length) HF_NONNULL;
 
 /* Writes the plan with these destinations, each number in the fewest groups, into out, which must have exactly the length that hf_plan_length answers.
    Answers the number alone. Refuses with 9. */
-uint8_t hf_plan_write(const uint32_t *rows, size_t rows_length, uint8_t *out, size_t out_length);
+uint8_t hf_plan_write(const uint32_t *rows, size_t rows_length, uint8_t *out, size_t out_length) HF_NONNULL;
 
 /* A walk over the rows one after another. hf_plan_start reads the plan whole; its answer is kept beside the plan, which must not change meanwhile:
        hf_cursor walk = hf_plan_start(plan, plan_length);
        hf_walk row;
-       while ((row = hf_plan_step(plan, plan_length, walk.at, walk.number)).number == 0) {
+       while ((row = hf_plan_step(plan, plan_length, walk)).number == 0) {
            walk.at = row.next;
            .. row.destination ..
        }
    Refuses with 5, 9. */
-hf_cursor hf_plan_start(const uint8_t *plan, size_t plan_length);
+hf_cursor hf_plan_start(const uint8_t *plan, size_t plan_length) HF_NONNULL;
 /* The next row. Refuses with 5, 9, 10: at every ask with the number that hf_plan_start gave, or past the last row with 10. */
-hf_walk hf_plan_step(const uint8_t *plan, size_t plan_length, size_t at, uint8_t number);
+hf_walk hf_plan_step(const uint8_t *plan, size_t plan_length, hf_cursor walk) HF_NONNULL;
 
 #ifdef __cplusplus
 }

@@ -26,9 +26,9 @@ class Header(unittest.TestCase):
     def test_functions(self) -> None:
         found = {
             name: (TYPES[result], [declared(parameter.strip()) for parameter in parameters.split(",") if parameter != "void"])
-            for result, name, parameters in re.findall(r"^(\w+) (hf_\w+)\(([^)]*)\);", HEADER, flags=re.MULTILINE)
+            for result, name, parameters in re.findall(r"^(\w+) (hf_\w+)\(([^)]*)\)(?: HF_NONNULL)?;", HEADER, flags=re.MULTILINE)
         }
-        self.assertEqual(len(found), 20)
+        self.assertEqual(len(found), 21)
         self.assertEqual({name: (result, list(arguments)) for name, (result, arguments) in FUNCTIONS.items()}, found)
         for name, (result, arguments) in found.items():
             function = getattr(functions, name)

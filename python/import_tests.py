@@ -23,9 +23,7 @@ class Imports(unittest.TestCase):
         self.root = Path(folder.name).resolve()
         root = shared_object.REPOSITORY
         shutil.copytree(root / "python" / "hailfeather", self.root / "python" / "hailfeather", ignore=shutil.ignore_patterns("__pycache__"))
-        (self.root / "include").mkdir()
-        for part in ("build", "include/refusals.txt"):
-            shutil.copy(root / part, self.root / part)
+        shutil.copy(root / "build", self.root / "build")
         self.made = self.root / "target" / "python" / "libhailfeather.so"
 
     def tools(self, names: List[str]) -> str:
@@ -35,11 +33,11 @@ class Imports(unittest.TestCase):
             (folder / name).symlink_to(shutil.which(name) or name)
         return str(folder)
 
-    def started(self, tools: List[str], **environment: object) -> subprocess.Popen:
-        """A Python that imports the copy."""
+    def started(self, tools: List[str], use: str = USE, **environment: object) -> subprocess.Popen:
+        """A Python that imports the copy, and uses it."""
         variables: Dict[str, str] = {name: str(value) for name, value in environment.items()}
         variables.update(PATH=self.tools(tools), PYTHONPATH=str(self.root / "python"), PYTHONDONTWRITEBYTECODE="1")
-        return subprocess.Popen([sys.executable, "-c", USE], env=variables, stdout=subprocess.PIPE, stderr=subprocess.PIPE, universal_newlines=True)
+        return subprocess.Popen([sys.executable, "-c", use], env=variables, stdout=subprocess.PIPE, stderr=subprocess.PIPE, universal_newlines=True)
 
     def works(self, process: subprocess.Popen) -> None:
         self.assertEqual(process.communicate(), ("46b9dd2b\n", ""))
@@ -82,7 +80,7 @@ class Imports(unittest.TestCase):
     def test_archive(self) -> None:
         self.fails(self.started(SCRIPT_TOOLS, HAILFEATHER_ARCHIVE="/nowhere.a"), "HAILFEATHER_ARCHIVE names /nowhere.a, which is not there", "or set")
         self.fails(self.started(SCRIPT_TOOLS), "libhailfeather.a is missing or old, and rt", "is not on the PATH", "install the toolchain, or set")
-        text = self.root / "include" / "refusals.txt"
+        text = self.root / "python" / "hailfeather" / "refusals.txt"
         process = self.started(SCRIPT_TOOLS + LINK_TOOLS, HAILFEATHER_ARCHIVE=text)
         self.fails(process, f"makes no shared object of {text}", "build the static library anew")
         self.assertEqual(list(self.made.parent.iterdir()), [])
@@ -95,6 +93,16 @@ class Imports(unittest.TestCase):
         self.fails(process, f"{self.made} cannot be written", "make its folder writable, or set HAILFEATHER_LIBRARY")
         (self.root / "build").unlink()
         self.fails(self.started(SCRIPT_TOOLS), f"the script {self.root / 'build'}", "is not there: import hailfeather from its repository, or set")
-        (self.root / "include" / "refusals.txt").unlink()
+        (self.root / "python" / "hailfeather" / "refusals.txt").unlink()
         process = self.started([], HAILFEATHER_LIBRARY=shared_object.found())
-        self.fails(process, "the refusals' words cannot be read", "import hailfeather from its repository")
+        self.fails(process, "the refusals' words cannot be read", "copy the module's folder whole")
+
+    def test_away(self) -> None:
+        """The module's folder alone, copied as it stands, with a shared object that the environment names: calls and refusals in words."""
+        (self.root / "build").unlink()
+        folder = self.root / "python" / "hailfeather"
+        shutil.rmtree(folder)
+        shutil.copytree(shared_object.REPOSITORY / "python" / "hailfeather", folder, symlinks=True, ignore=shutil.ignore_patterns("__pycache__"))
+        self.works(self.started([], HAILFEATHER_LIBRARY=shared_object.found()))
+        use = "import hailfeather\ntry:\n    hailfeather.plan.destination(bytes([0]), 2**32 + 1)\nexcept hailfeather.Refusal as refusal:\n    print(refusal)"
+        self.assertEqual(self.started([], use, HAILFEATHER_LIBRARY=shared_object.found()).communicate(), ("refused 10: the plan has no such chute\n", ""))

@@ -1,4 +1,4 @@
-"""Document 01, "Both sides of the line": every row and every count, asked of the reference.
+"""docs/RULES.md, "Facts": every row and every count, asked of the reference.
 
 The walker, writing and the report, which have no cases in vectors/, are asked here too.
 

@@ -1,4 +1,4 @@
-"""Source document 003, section 1.1: the cSHAKE generator, as document 01, "The generator", reads it.
+"""cSHAKE-DRNG, 1.1: the cSHAKE generator, as docs/RULES.md, "Generator", reads it.
 
 Every step takes a generator and hands one back; a refused step hands back the one it got.
 """

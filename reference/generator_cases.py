@@ -1,4 +1,4 @@
-"""Prints the cSHAKE generator (source document 003, 1.1) over document 01's counts and limits and over a long draw.
+"""Prints the cSHAKE generator (cSHAKE-DRNG, 1.1) over docs/RULES.md's counts and limits and over a long draw.
 
 Each step is a heading with its number and count, a line with the state after it, and for a draw a line with the output, of which a refused draw leaves the
 bytes AA that stood there before. Of the long draw SHAKE256 is printed in its place.

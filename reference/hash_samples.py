@@ -1,6 +1,6 @@
 """Prints what the program crates/hash_samples must print.
 
-The samples' outputs are the published ones of vectors/nist-samples.txt, not worked out here; the counts are those of document 01's table, and the
+The samples' outputs are the published ones of vectors/nist-samples.txt, not worked out here; the counts are those of docs/RULES.md's table, and the
 numbers of the names beside KMAC those of its refusal table, by the reference.
 """
 

@@ -1,4 +1,4 @@
-"""Document 01, "The chute plan": reading, looking up, writing, walking and reporting.
+"""docs/RULES.md, "Chute plan": reading, looking up, writing, walking and reporting.
 
 As a program it reads a plan on standard input and writes its report.
 """

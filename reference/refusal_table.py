@@ -1,4 +1,4 @@
-"""Document 01, "Numbers a caller gets back": every mix of good and bad arguments, asked of the reference.
+"""docs/RULES.md, "Numbers": every mix of good and bad arguments, asked of the reference.
 
     python3 reference/refusal_table.py
 

@@ -1,4 +1,4 @@
-"""Document 01, "Numbers a caller gets back": the limits, and which number is given."""
+"""docs/RULES.md, "Numbers": the limits, and which number is given."""
 
 STRING_LIMIT = 4_096  # a KMAC key, a name, a customisation, an IV (numbers 2 and 3)
 SHORT_LIMIT = 84  # an additional input, a personalisation (number 3)

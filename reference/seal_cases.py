@@ -15,7 +15,7 @@ MODULUS = 2**32 - 5
 
 # lengths of key, IV, text, label, output and tag
 EDGES = (
-    (32, 0, 0, 0, 0, 16),  # document 01's counts
+    (32, 0, 0, 0, 0, 16),  # docs/RULES.md's counts
     (32, 0, 104, 0, 104, 16),
     (32, 0, 105, 0, 105, 16),
     (32, 125, 0, 0, 0, 16),  # a block of the IV

@@ -1,4 +1,4 @@
-"""Source document 000, section 1.2: the KMAC AEAD, as document 01, "Sealing and opening", reads it.
+"""KMAC AEAD, 1.2: the KMAC AEAD, as docs/RULES.md, "Sealing", reads it.
 
 `text` is the caller's text: plaintext in sealing, ciphertext in opening. `out_length` and
 `tag_length` are the lengths of the lent output and tag. Label means the additional authenticated data.

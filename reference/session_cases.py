@@ -1,4 +1,4 @@
-"""Prints how running sessions answer (document 01): one message cut in many ways, and refusals in every phase.
+"""Prints how running sessions answer (docs/RULES.md): one message cut in many ways, and refusals in every phase.
 
 A cut message has one answer; a line says how many ways to cut gave it. Refusals are lines of numbers in the order of the calls. The two totals of
 16,777,216 bytes are SHAKE256's, whose bytes are taken from hashlib: this reference would run the permutation 123,362 times for each.

@@ -1,4 +1,4 @@
-"""Document 01, "Running sessions": cSHAKE256 and KMACXOF256 piece by piece.
+"""docs/RULES.md, "Sessions": cSHAKE256 and KMACXOF256 piece by piece.
 
 A session keeps the joined pieces and how many bytes it has given; each ask is worked out afresh
 from the one-shot definition, so that the joined-bytes rule is plain to see. Every step takes a

@@ -1,6 +1,6 @@
 """SP 800-185: the encodings, cSHAKE256, KMAC256 and KMACXOF256, all on whole bytes.
 
-The three calls answer (number, runs, output) by document 01: output None and runs 0 on a refusal.
+The three calls answer (number, runs, output) by docs/RULES.md: output None and runs 0 on a refusal.
 """
 
 from fips202 import RATE, padded, sponge
@@ -58,7 +58,7 @@ def fed_kmacxof256(key, message, custom):
 
 
 def runs(fed, length):
-    """Document 01, "Count": blocks of padded input, plus the blocks of output less one, or 0 for no output."""
+    """docs/RULES.md, "Count": blocks of padded input, plus the blocks of output less one, or 0 for no output."""
     output_blocks = -(-length // RATE)
     return len(fed) // RATE + max(output_blocks - 1, 0)
 

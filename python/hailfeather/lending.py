@@ -10,7 +10,7 @@ BytesLike = Union[bytes, bytearray, memoryview]
 
 OUTPUT_LIMIT = 16_777_216  # bytes: a longer output is refused
 LARGEST_SIZE = 2**64 - 1
-LARGEST_NUMBER = 2**32 - 1
+LARGEST_DESTINATION = 2**32 - 1
 
 
 class Output(bytes):
@@ -56,9 +56,9 @@ def room_for(length: int, limit: int = OUTPUT_LIMIT) -> "Array[c_uint8]":
     return (c_uint8 * min(length, limit + 1))()
 
 
-def number_of(name: str, number: int) -> int:
-    """A chute or a destination; one beyond 32 bits counts as the largest of 32, which no plan has either."""
+def number_of(name: str, number: int, largest: int) -> int:
+    """A chute or a destination; one beyond its C type counts as the largest of that, which no plan has either."""
     number = index(number)
     if number < 0:
         raise ValueError(f"{name} is negative: {number}")
-    return min(number, LARGEST_NUMBER)
+    return min(number, largest)

@@ -7,8 +7,10 @@ from . import shared_object, structs
 BYTES = POINTER(c_uint8)
 LENT = [BYTES, c_size_t]  # a pointer to bytes, followed by their number
 DESTINATIONS = [POINTER(c_uint32), c_size_t]
+VERSION = 100  # HF_VERSION of include/hailfeather.h, 0.1.0
 
 FUNCTIONS = {
+    "hf_version": (c_uint32, []),
     "hf_keccak_p": (None, [POINTER(c_uint64)]),
     "hf_cshake256": (structs.Outcome, LENT * 4),
     "hf_kmac256": (structs.Outcome, LENT * 4),
@@ -28,7 +30,7 @@ FUNCTIONS = {
     "hf_plan_length": (structs.Length, DESTINATIONS),
     "hf_plan_write": (c_uint8, [*DESTINATIONS, *LENT]),
     "hf_plan_start": (structs.Cursor, LENT),
-    "hf_plan_step": (structs.Walk, [*LENT, c_size_t, c_uint8]),
+    "hf_plan_step": (structs.Walk, [*LENT, structs.Cursor]),
 }
 
 
@@ -45,6 +47,8 @@ def loaded() -> CDLL:
         except AttributeError:
             raise ImportError(f"{path} has no function {name}, so it is not Hailfeather or not of this version: {shared_object.ELSE}") from None
         function.restype, function.argtypes = result, arguments
+    if functions.hf_version() != VERSION:
+        raise ImportError(f"{path} is of version {functions.hf_version()}, and this module of {VERSION}: {shared_object.ELSE}")
     return functions
 
 

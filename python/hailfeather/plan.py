@@ -9,9 +9,10 @@ from ctypes import c_uint32, string_at
 from itertools import islice
 from typing import Any, Iterable, Iterator, NamedTuple, Tuple
 
-from .lending import BytesLike, lent, number_of, room_for
+from .lending import LARGEST_DESTINATION, LARGEST_SIZE, BytesLike, lent, number_of, room_for
 from .library import functions
 from .refusal import accept
+from .structs import Cursor
 
 PLAN_LIMIT = 65_536  # bytes: a longer plan is refused
 ROWS_LIMIT = 4_096  # rows: a plan with more is refused
@@ -43,7 +44,7 @@ def destination(plan: BytesLike, chute: int) -> int:
     ...
     hailfeather.refusal.Refusal: refused 10: the plan has no such chute
     """
-    answer = functions.hf_plan_destination(*lent("plan", plan), number_of("chute", chute))
+    answer = functions.hf_plan_destination(*lent("plan", plan), number_of("chute", chute, LARGEST_SIZE))
     accept("plan_destination", answer.number)
     return answer.destination
 
@@ -55,7 +56,7 @@ def row(site: BytesLike, house: BytesLike, chute: int) -> Row:
     Row(source='house', start=2, bytes=b'\\xac\\x02')
     """
     lent_plans = {"site": lent("site", site), "house": lent("house", house)}
-    answer = functions.hf_plan_row(*lent_plans["site"], *lent_plans["house"], number_of("chute", chute))
+    answer = functions.hf_plan_row(*lent_plans["site"], *lent_plans["house"], number_of("chute", chute, LARGEST_SIZE))
     accept("plan_row", answer.number)
     source = SOURCES[answer.source]
     return Row(source, answer.start, string_at(*lent_plans[source])[answer.start : answer.start + answer.length])
@@ -63,7 +64,7 @@ def row(site: BytesLike, house: BytesLike, chute: int) -> Row:
 
 def write(destinations: Iterable[int]) -> bytes:
     """The plan with these destinations, each number in the fewest groups. Refuses with 9."""
-    numbers = [number_of("a destination", number) for number in islice(destinations, ROWS_LIMIT + 1)]
+    numbers = [number_of("a destination", number, LARGEST_DESTINATION) for number in islice(destinations, ROWS_LIMIT + 1)]
     lent_rows = (c_uint32 * len(numbers))(*numbers), len(numbers)
     needed = functions.hf_plan_length(*lent_rows)
     accept("plan_length", needed.number)
@@ -78,12 +79,13 @@ def walk(plan: BytesLike) -> Iterator[int]:
     lent_plan = lent("plan", string_at(pointer, min(length, PLAN_LIMIT + 1)))  # a copy, since the plan must not change meanwhile
     cursor = functions.hf_plan_start(*lent_plan)
     accept("plan_start", cursor.number)
-    return steps(lent_plan, cursor.at)
+    return steps(lent_plan, cursor)
 
 
-def steps(lent_plan: Tuple[Any, int], at: int) -> Iterator[int]:
+def steps(lent_plan: Tuple[Any, int], cursor: Cursor) -> Iterator[int]:
     """The destinations from a row on, to the end of a plan that was read."""
-    answer = functions.hf_plan_step(*lent_plan, at, 0)
+    answer = functions.hf_plan_step(*lent_plan, cursor)
     while answer.number == 0:
         yield answer.destination
-        answer = functions.hf_plan_step(*lent_plan, answer.next, 0)
+        cursor.at = answer.next
+        answer = functions.hf_plan_step(*lent_plan, cursor)

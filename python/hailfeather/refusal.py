@@ -1,10 +1,9 @@
-"""The library's refusals, with their words from include/refusals.txt."""
+"""The library's refusals, with their words from refusals.txt beside this file."""
 
+from pathlib import Path
 from typing import Dict, Tuple
 
-from .shared_object import REPOSITORY
-
-FILE = REPOSITORY / "include" / "refusals.txt"
+FILE = Path(__file__).with_name("refusals.txt")
 
 
 def words_by_entry() -> Dict[Tuple[str, int], str]:
@@ -12,7 +11,7 @@ def words_by_entry() -> Dict[Tuple[str, int], str]:
     try:
         lines = FILE.read_text(encoding="utf-8").splitlines()
     except OSError as reason:
-        raise ImportError(f"the refusals' words cannot be read ({reason}): import hailfeather from its repository, which has them") from None
+        raise ImportError(f"the refusals' words cannot be read ({reason}): copy the module's folder whole") from None
     parts = [line.split(" ", 2) for line in lines]
     return {(entry, int(number)): words for entry, number, words in parts}
 

@@ -20,7 +20,7 @@ class SessionState(Structure):
         ("position", c_size_t),
         ("phase", c_uint8),
         ("suffix", c_uint8),
-        ("keyed", c_uint8),
+        ("kmac", c_uint8),
     ]
 
 

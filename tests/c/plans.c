@@ -19,9 +19,11 @@ static void reading(void) {
     r = hf_plan_read(big, 65537);
     EXPECT(r.number == 5 && r.rows == 0);
     static const struct {
-        uint32_t chute, destination;
+        uint64_t chute;
+        uint32_t destination;
         uint8_t number;
-    } asks[] = {{1, 7, 0}, {2, 300, 0}, {3, 0, 0}, {4, 0, 10}, {0, 0, 10}, {4096, 0, 10}, {UINT32_MAX, 0, 10}};
+    } asks[] = {{1, 7, 0}, {2, 300, 0}, {3, 0, 0}, {4, 0, 10}, {0, 0, 10}, {4096, 0, 10}, {UINT32_MAX, 0, 10},
+               {(uint64_t)UINT32_MAX + 1, 0, 10}, {(uint64_t)UINT32_MAX + 2, 0, 10}, {UINT64_MAX, 0, 10}};
     for (size_t i = 0; i < sizeof asks / sizeof *asks; i++) {
         hf_destination d = hf_plan_destination(good, sizeof good, asks[i].chute);
         EXPECT(d.number == asks[i].number && d.destination == asks[i].destination);
@@ -41,6 +43,7 @@ static void two_plans(void) {
     EXPECT(row_is(hf_plan_row(site, sizeof site, good, sizeof good, 3), 4, 1, 2, 0));
     EXPECT(row_is(hf_plan_row(site, sizeof site, good, sizeof good, 4), 0, 0, 0, 10));
     EXPECT(row_is(hf_plan_row(site, sizeof site, good, sizeof good, 0), 0, 0, 0, 10));
+    EXPECT(row_is(hf_plan_row(site, sizeof site, good, sizeof good, (uint64_t)UINT32_MAX + 2), 0, 0, 0, 10));
     EXPECT(row_is(hf_plan_row(site, sizeof site, long_number, sizeof long_number, 1), 0, 0, 0, 9));
     EXPECT(row_is(hf_plan_row(NONE, good, sizeof good, 1), 0, 0, 0, 9));
     EXPECT(row_is(hf_plan_row(NONE, big, 65537, 1), 0, 0, 0, 5));
@@ -68,20 +71,20 @@ static void walking(void) {
     hf_cursor walk = hf_plan_start(good, sizeof good);
     EXPECT(walk.number == 0 && walk.at == 1);
     for (size_t i = 0; i < 3; i++) {
-        hf_walk row = hf_plan_step(good, sizeof good, walk.at, walk.number);
+        hf_walk row = hf_plan_step(good, sizeof good, walk);
         EXPECT(row.number == 0 && row.destination == rows[i]);
         walk.at = row.next;
     }
     for (int again = 0; again < 2; again++) {
-        hf_walk row = hf_plan_step(good, sizeof good, walk.at, walk.number);
+        hf_walk row = hf_plan_step(good, sizeof good, walk);
         EXPECT(row.number == 10 && row.destination == 0 && row.next == walk.at);
     }
     walk = hf_plan_start(long_number, sizeof long_number);
-    EXPECT(walk.number == 9);
-    hf_walk row = hf_plan_step(long_number, sizeof long_number, walk.at, walk.number);
+    EXPECT(walk.number == HF_MALFORMED_PLAN && walk.at == 0);
+    hf_walk row = hf_plan_step(long_number, sizeof long_number, walk);
     EXPECT(row.number == 9 && row.destination == 0 && row.next == walk.at);
     EXPECT(hf_plan_start(big, 65537).number == 5);
-    row = hf_plan_step(good, sizeof good, SIZE_MAX, 0);
+    row = hf_plan_step(good, sizeof good, (hf_cursor){.at = SIZE_MAX, .number = HF_DONE});
     EXPECT(row.number == 10 && row.next == SIZE_MAX);
 }
 

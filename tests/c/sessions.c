@@ -3,7 +3,7 @@
 
 static bool same(hf_session a, hf_session b) {
     return memcmp(a.lanes, b.lanes, sizeof a.lanes) == 0 && a.taken == b.taken && a.given == b.given && a.limit == b.limit && a.position == b.position &&
-           a.phase == b.phase && a.suffix == b.suffix && a.keyed == b.keyed;
+           a.phase == b.phase && a.suffix == b.suffix && a.kmac == b.kmac;
 }
 
 static hf_session start(void) { return hf_session_kmacxof256(TEXT("a key"), TEXT("a custom")).session; }

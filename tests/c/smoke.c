@@ -45,6 +45,7 @@ int main(int count, char **words) {
         fprintf(stderr, "usage: smoke vectors/nist-samples.txt\n");
         return 2;
     }
+    EXPECT(hf_version() == HF_VERSION);
     check_samples(words[1]);
     report("NIST's samples, in one call and in sessions");
     check_hashes();

@@ -1,19 +1,33 @@
-/* How much of the stack the deepest functions take: each runs on a stack that was filled with canaries, beside one that does nothing. */
+/* How much of the stack each function takes: it runs on a stack that was filled with canaries, beside one that does nothing. Calls that are refused take less,
+ * so every call here is accepted, and no buffer that is written overlaps another. */
 #include <stdlib.h>
 #include <ucontext.h>
 
 #include "check.h"
 
 enum { STACK = 1 << 18, CANARY = 0xA5, MOST_STACK = 4096 };
-static uint8_t buffer[300], tag[64];
+static const uint8_t plan[] = {0x03, 0x07, 0xAC, 0x02, 0x00};
+static const uint32_t rows[] = {7, 300, 0};
+static uint8_t key[32], text[300], label[84], out[300], tag[64], opened[300];
+static uint64_t lanes[25];
+static uint8_t number; /* of the call that ran last */
 
 static void nothing(void) {}
-static void one_call(void) { hf_kmac256(buffer, 32, buffer, 32, buffer, 300, tag, 64); }
-static void stepping(void) { hf_session_give(hf_session_take(hf_session_kmacxof256(buffer, 32, buffer, 32).session, buffer, 300).session, tag, 64); }
-static void sealing(void) { hf_seal(buffer, 32, buffer, 32, buffer, 32, buffer, 32, buffer + 100, 32, tag, 64); }
-static void opening(void) { hf_open(buffer, 32, buffer, 32, buffer, 32, buffer, 32, buffer + 100, 32, tag, 64); }
-static void drawing(void) { hf_generator_draw(hf_generator_seed(hf_generator_fresh(), buffer, 300, buffer, 84).generator, buffer, 84, buffer, 300); }
-static void looking(void) { hf_plan_row((const uint8_t *)"\1\7", 2, (const uint8_t *)"\1\7", 2, 1); }
+static void permuting(void) { hf_keccak_p(lanes); }
+static void cshake(void) { number = hf_cshake256(label, 84, key, 32, text, 300, out, 300).number; }
+static void kmac(void) { number = hf_kmac256(key, 32, label, 84, text, 300, out, 300).number; }
+static void kmacxof(void) { number = hf_kmacxof256(key, 32, label, 84, text, 300, out, 300).number; }
+static void naming(void) { number = hf_session_cshake256(label, 84, key, 32).number; }
+static void stepping(void) { number = hf_session_give(hf_session_take(hf_session_kmacxof256(key, 32, label, 84).session, text, 300).session, out, 300).number; }
+static void sealing(void) { number = hf_seal(key, 32, label, 84, text, 300, label, 84, out, 300, tag, 64).number; }
+static void opening(void) { number = hf_open(key, 32, label, 84, out, 300, label, 84, opened, 300, tag, 64).number; }
+static void drawing(void) { number = hf_generator_draw(hf_generator_seed(hf_generator_fresh(), text, 300, label, 84).generator, key, 32, out, 300).number; }
+static void reading(void) { number = hf_plan_read(plan, sizeof plan).number; }
+static void asking(void) { number = hf_plan_destination(plan, sizeof plan, 3).number; }
+static void looking(void) { number = hf_plan_row(plan, sizeof plan, plan, sizeof plan, 3).number; }
+static void measuring(void) { number = hf_plan_length(rows, 3).number; }
+static void writing(void) { number = hf_plan_write(rows, 3, out, sizeof plan); }
+static void walking(void) { number = hf_plan_step(plan, sizeof plan, hf_plan_start(plan, sizeof plan)).number; }
 
 /* The bytes of the stack that this work leaves changed. */
 static size_t touched(uint8_t *stack, void (*work)(void)) {
@@ -34,7 +48,9 @@ void check_stack(void) {
 #ifdef __SANITIZE_ADDRESS__
     return; /* the sanitizer's own frames are larger */
 #endif
-    static void (*const works[])(void) = {one_call, stepping, sealing, opening, drawing, looking};
+    /* sealing comes before opening, which opens what it made */
+    static void (*const works[])(void) = {permuting, cshake, kmac,   kmacxof, naming,  stepping,  sealing, opening,
+                                          drawing,   reading, asking, looking, measuring, writing, walking};
     uint8_t *stack = aligned_alloc(4096, STACK);
     EXPECT(stack != NULL);
     if (stack == NULL) return;
@@ -42,8 +58,10 @@ void check_stack(void) {
     for (size_t i = 0; i < sizeof works / sizeof *works; i++) {
         size_t taken = touched(stack, works[i]) - base;
         EXPECT(taken <= MOST_STACK);
+        EXPECT(number == HF_DONE);
         most = taken > most ? taken : most;
     }
+    EXPECT(memcmp(opened, text, sizeof text) == 0);
     printf("the deepest of them takes %zu bytes of stack\n", most);
     free(stack);
 }

@@ -5,11 +5,11 @@ use native.Mathlib.Omega.{arith}
 use borrow.Author.Tests.{ltb-false, le-ltb}
 use lib.Dec.{ltb}
 use lib.ListN.{length, length-append}
+use Rattle.answers.specs.Laws.{test-passed}
 use Rattle.encode.specs.Laws.Codes.{lengthSuffixed-free}
 use Rattle.calls.specs.Limits.{maxPersonalisation, maxSeed, maxMessage, maxCustomisation}
 use Rattle.calls.specs.Call.{input, refusal, Accepted, fed}
 use Rattle.calls.specs.Start.{startRefusal}
-use Rattle.calls.specs.Laws.Refusal.{test-passed}
 use Rattle.calls.specs.Laws.Input.{fedBytes-fixes}
 use Rattle.alike.specs.Seeding.{Seeding, seedMessage, seedCall, seedRefusal, SeedingAccepted}
 

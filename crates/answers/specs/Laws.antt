@@ -24,3 +24,11 @@ firstOf-refused (suc k) later h = refl
 -- bytes that are not refused keep the limit
 pub over-passed : (n most k : ℕ) → over n most (suc k) ≡ 0 → n ≤ most
 over-passed n most k e = ltb-false most n (test-passed (ltb most n) k 0 e .0)
+
+-- and bytes that are refused exceed it
+pub over-refused : (n most k : ℕ) → (over n most k ≡ 0 → ⊥) → ltb most n ≡ true
+over-refused n most k some = go (ltb most n) some
+  where
+    go : (t : Bool) → (cond t k 0 ≡ 0 → ⊥) → t ≡ true
+    go true h = refl
+    go false h = absurd (h refl)

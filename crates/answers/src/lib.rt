@@ -2,6 +2,7 @@
 // The numbers are those of specs/Numbers.antt. A call gives the smallest that applies.
 
 ghost use mathlib.Core.Path.{_≡_};
+ghost use Prim.Native.Nat.{_+_};
 ghost use Rattle.answers.specs.Done.{firstOf, over};
 
 // Done: nothing was refused.
@@ -52,6 +53,19 @@ pub fn first_of(number: u8, later: u8) -> u8
         return later;
     }
     number
+}
+
+// The number for a total that more bytes would lead beyond the most that are allowed.
+pub fn over_total(total: usize, more: usize, most: usize, number: u8) -> u8
+    ensures { λ r. ⌜ r ≡ over (total + more) most number ⌝ }
+{
+    if most < total {
+        return number;
+    }
+    if most - total < more {
+        return number;
+    }
+    DONE
 }
 
 // The number for more bytes than the most that are allowed.

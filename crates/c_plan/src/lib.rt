@@ -1,11 +1,11 @@
 // The row of a chute in two plans and an ask of a walk as C has them (docs/RULES.md, 'Chute plan'): an offset, a length and the number of the plan, since no
-// reference can be handed to C; and a cursor's fields one by one. The crate `hailfeather` gives the functions their names in C; the other questions on plans
-// need no conversion.
+// reference can be handed to C; and of where a walk stands next the place alone, since its number is that of the cursor before. The crate `hailfeather` gives
+// the functions their names in C; the other questions on plans need no conversion.
 ghost use mathlib.Core.Path.{_≡_};
 ghost use Rattle.plan_pair.specs.Pair.{locationOf};
 ghost use Rattle.plan_walk.specs.Walk.{walkStep};
 ghost use Rattle.c_plan.specs.Row.{sourceNumber, exportedLocation};
-ghost use Rattle.c_plan.specs.Walk.{importedCursor, exportedAnswer};
+ghost use Rattle.c_plan.specs.Walk.{exportedAnswer};
 use plan_pair::Source;
 use plan_walk::Cursor;
 
@@ -49,10 +49,10 @@ pub struct CWalk {
     pub number: u8,
 }
 
-pub fn step(plan: &[u8], at: usize, number: u8) -> CWalk
-    ensures { λ r. ⌜ r ≡ exportedAnswer (walkStep (now (plan .entry)) (importedCursor at number)) ⌝ }
+pub fn step(plan: &[u8], cursor: Cursor) -> CWalk
+    ensures { λ r. ⌜ r ≡ exportedAnswer (walkStep (now (plan .entry)) cursor) ⌝ }
 {
-    let answer = plan_walk::step_at(plan, Cursor { at, number });
+    let answer = plan_walk::step_at(plan, cursor);
     CWalk {
         next: answer.next.at,
         destination: answer.destination,

@@ -1,4 +1,4 @@
--- The arguments of a call that demand 3 compares: cSHAKE256 has no key and the other two have no name (document 01, 'Fed alike'), and the output's length
+-- The arguments of a call that demand 3 compares: cSHAKE256 has no key and the other two have no name (docs/RULES.md, 'Fed alike'), and the output's length
 -- counts for KMAC256 alone. What a function lacks stands as [] or 0.
 use mathlib.Core.List.{List, []}
 use Prim.Native.Nat.{ℕ}

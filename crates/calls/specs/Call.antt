@@ -69,7 +69,7 @@ input (cshake256 X n N S) = record { name = N; customisation = S; message = X }
 input (kmac256 K X n S) = kmacInput K X (8 * n) S
 input (kmacxof256 K X n S) = kmacInput K X 0 S
 
--- the padded bytes of a call (document 01, 'Fed alike')
+-- the padded bytes of a call (docs/RULES.md, 'Fed alike')
 unfoldable pub fed : {f : Function} → Call f → List ℕ
 fed c = fedBytes (input c)
 

@@ -1,4 +1,4 @@
--- How often the permutation runs for a call (document 01, 'Count').
+-- How often the permutation runs for a call (docs/RULES.md, 'Count').
 use Prim.Native.Nat.{ℕ, _+_, _-_, _/_}
 use lib.ListN.{length}
 use Rattle.answers.specs.Done.{ifDone}

@@ -1,4 +1,4 @@
--- The edges of the refusal table (document 01, 'Numbers a caller gets back') and the counts of KMACXOF256 in 'Both sides of the line'.
+-- The edges of the refusal table (docs/RULES.md, 'Numbers') and the counts of KMACXOF256 in 'Both sides of the line'.
 use mathlib.Core.Path.{_≡_, refl, _∙_}
 use mathlib.Core.List.{List, [], _∷_, _++_}
 use Prim.Native.Nat.{ℕ, _+_, _/_}
@@ -9,7 +9,8 @@ use Rattle.calls.specs.Start.{named, keyed, startRefusal}
 use Rattle.calls.specs.Call.{Function, cSHAKE256, KMAC256, KMACXOF256, cshake256, kmac256, kmacxof256, messageRefusal, outputRefusal, refusal}
 use Rattle.calls.specs.Count.{outputRuns, runs, reportedRuns}
 use Rattle.calls.specs.Laws.Runs.{cshakeBlocks, runs-by-lengths}
-use Rattle.encode.specs.Laws.Lengths.{blocks, stringLength}
+use Rattle.encode.specs.Padding.{blocks}
+use Rattle.encode.specs.Laws.Lengths.{stringLength}
 
 -- Refusals
 

@@ -5,7 +5,7 @@ use Rattle.calls.specs.Call.{Function, Call, Accepted, fed}
 use Rattle.calls.specs.Arguments.{arguments}
 use Rattle.calls.specs.Laws.FedAlike.{alike-arguments, arguments-alike}
 
--- Two calls are fed alike, in document 01's words, if their padded bytes are equal in number and value.
+-- Two calls are fed alike, in docs/RULES.md's words, if their padded bytes are equal in number and value.
 abbrev pub FedAlike : {f g : Function} → Call f → Call g → Type 0
 FedAlike a b = fed a ≡ fed b
 

@@ -1,4 +1,4 @@
--- cSHAKE256(X, L, N, S) up to its output (SP 800-185, 3.3; document 01, 'Strings put into the sponge').
+-- cSHAKE256(X, L, N, S) up to its output (SP 800-185, 3.3; docs/RULES.md, 'Strings').
 use mathlib.Core.Bool.{Bool, true, false, cond, _&&_}
 use mathlib.Core.List.{List, [], _∷_, _++_}
 use Prim.Native.Nat.{ℕ}
@@ -27,7 +27,7 @@ cshakePrefix N S = cond (isShake N S) [] (bytepad (encodeString N ++ encodeStrin
 abbrev pub cshakeSuffix : List ℕ → List ℕ → ℕ
 cshakeSuffix N S = cond (isShake N S) 0x1f 0x04
 
--- All that the permutation is fed: the padded bytes, from the first to the one that got 80. 'Fed' is document 01's word.
+-- All that the permutation is fed: the padded bytes, from the first to the one that got 80. 'Fed' is docs/RULES.md's word.
 unfoldable pub fedBytes : Input → List ℕ
 fedBytes i =
     padded (cshakeSuffix (i .name) (i .customisation)) (cshakePrefix (i .name) (i .customisation) ++ i .message)

@@ -1,4 +1,4 @@
--- The limits of the refusal table (document 01, 'Numbers a caller gets back'), in bytes.
+-- The limits of the refusal table (docs/RULES.md, 'Numbers'), in bytes.
 use Prim.Native.Nat.{ℕ}
 
 -- number 2

@@ -26,7 +26,7 @@ sameBytes (x ∷ xs) (y ∷ ys) = eqb x y && sameBytes xs ys
 abbrev pub isReserved : List ℕ → Bool
 isReserved N = sameBytes N KMAC
 
--- 2, 3 or 4 of the table (document 01, 'Numbers a caller gets back'), the smallest that applies; 0 for none
+-- 2, 3 or 4 of the table (docs/RULES.md, 'Numbers'), the smallest that applies; 0 for none
 unfoldable pub startRefusal : Start → ℕ
 startRefusal (named N S) =
     firstOf (over (length N) maxName stringTooLong)

@@ -14,7 +14,7 @@ use answers::STRING_TOO_LONG;
 use answers::first_of;
 use answers::over;
 
-// The limits of document 01's table, as specs/Limits.antt has them.
+// The limits of docs/RULES.md's table, as specs/Limits.antt has them.
 pub const MAX_KEY: usize = 4096;
 
 pub const MAX_NAME: usize = 4096;

@@ -20,7 +20,8 @@ drop-replicate (suc k) zero a = rw zero-sub
 drop-replicate (suc k) (suc n) a = rw suc-sub-suc (drop-replicate k n a)
 
 -- nine bytes that begin with the code and go on with zeros are the answer for it
-answers : (code bytes : List ℕ) (len : ℕ) → len ≡ length code → len ≤ 9 → bytes ≡ code ++ replicate (9 - len) 0 → Answers code (record { bytes = bytes; len = len })
+answers : (code bytes : List ℕ) (len : ℕ) → len ≡ length code → len ≤ 9 → bytes ≡ code ++ replicate (9 - len) 0
+    → Answers code (record { bytes = bytes; len = len })
 unfolding encoded
 answers code bytes len n s e =
     record {

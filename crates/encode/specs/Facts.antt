@@ -1,4 +1,4 @@
--- P1 to P7 of document 01, 'Both sides of the line', and the bytes it names at the end of a last block with one free byte, by computation.
+-- P1 to P7 of docs/RULES.md, 'Facts', and the bytes it names at the end of a last block with one free byte, by computation.
 use mathlib.Core.Path.{_≡_, refl}
 use mathlib.Core.List.{[], _∷_}
 use Prim.Native.Nat.{_*_}

@@ -8,6 +8,9 @@ ghost use Rattle.encode.specs.Encode.{leftEncode, rightEncode};
 ghost use Rattle.encode.specs.Answer.{Answers};
 ghost use Rattle.encode.specs.Private.{bigEndianAt};
 
+// The bytes of a block of the sponge, the rate of the 256 bit variants (SP 800-185, 3.2).
+pub const RATE: usize = 136;
+
 // An encoded number: its first `len` bytes. The others are 0.
 pub struct Encoded {
     pub bytes: [u8; 9],

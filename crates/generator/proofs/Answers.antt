@@ -7,11 +7,11 @@ use native.Mathlib.Omega.{arith}
 use borrow.Author.Tests.{ltb-false}
 use lib.Dec.{ltb}
 use lib.ListN.{length}
+use Rattle.answers.specs.Laws.{test-passed}
 use Rattle.answers.specs.Done.{ifDone}
 use Rattle.calls.specs.Limits.{maxPersonalisation, maxAdditional, maxSeed, maxOutput}
 use Rattle.calls.specs.Call.{fed}
 use Rattle.calls.specs.Count.{runs}
-use Rattle.calls.specs.Laws.Refusal.{test-passed}
 use Rattle.alike.specs.Seeding.{Seeding, seedCall, seedRefusal, seedCount}
 use Rattle.sponge.specs.Sponge.{sponge}
 use Rattle.pieces.specs.Pieces.{Generated, pieces, drawn}

@@ -1,7 +1,7 @@
 // Keccak-p[1600, 24], and cSHAKE256, KMAC256 and KMACXOF256 in one call.
 ghost use mathlib.Core.Path.{_≡_};
 ghost use lib.ListN.{length};
-ghost use Rattle.keccak.specs.Fips202.{keccakP};
+ghost use Rattle.fips202.specs.Fips202.{keccakP};
 ghost use Rattle.calls.specs.Call.{cshake256, kmac256, kmacxof256};
 ghost use Rattle.hash.specs.Outcome.{outcome, written};
 use answers::Outcome;

@@ -1,7 +1,8 @@
-// The library as C links it: each function is one entry of the crates below, under a name `hf_..`, with that entry's contract. A `&[u8]` passes as a pointer and
-// a length. Nothing is done here but handing on.
+// The library as C links it: each function is one entry of the crates below, under a name `hf_..`, with that entry's contract. A `&[u8]` passes as a pointer
+// and a length. Nothing is done here but handing on.
 mod hashes; // hashes.rt: the permutation and the hash functions
 mod sessions; // sessions.rt: running sessions
 mod seals; // seals.rt: sealing and opening
 mod generators; // generators.rt: the generator
 mod plans; // plans.rt: the chute plan
+mod version; // version.rt: the version of header and archive

@@ -5,7 +5,7 @@ ghost use Rattle.plan_pair.specs.Pair.{locationOf};
 ghost use Rattle.plan_write.specs.Write.{lengthOf, WritesPlan};
 ghost use Rattle.plan_walk.specs.Walk.{walkStart, walkStep};
 ghost use Rattle.c_plan.specs.Row.{exportedLocation};
-ghost use Rattle.c_plan.specs.Walk.{importedCursor, exportedAnswer};
+ghost use Rattle.c_plan.specs.Walk.{exportedAnswer};
 use c_plan::CRow;
 use c_plan::CWalk;
 use plan::Lookup;
@@ -56,8 +56,8 @@ pub extern "C" fn hf_plan_start(plan: &[u8]) -> Cursor
 }
 
 #[no_mangle]
-pub extern "C" fn hf_plan_step(plan: &[u8], at: usize, number: u8) -> CWalk
-    ensures { λ r. ⌜ r ≡ exportedAnswer (walkStep (now (plan .entry)) (importedCursor at number)) ⌝ }
+pub extern "C" fn hf_plan_step(plan: &[u8], walk: Cursor) -> CWalk
+    ensures { λ r. ⌜ r ≡ exportedAnswer (walkStep (now (plan .entry)) walk) ⌝ }
 {
-    c_plan::step(plan, at, number)
+    c_plan::step(plan, walk)
 }

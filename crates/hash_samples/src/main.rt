@@ -1,4 +1,4 @@
-// NIST's published samples of cSHAKE256, KMAC256 and KMACXOF256, SHAKE256 of the empty message, and document 01's table of counts. The expected output
+// NIST's published samples of cSHAKE256, KMAC256 and KMACXOF256, SHAKE256 of the empty message, and docs/RULES.md's table of counts. The expected output
 // is that of reference/hash_samples.py, which takes the samples from vectors/nist-samples.txt.
 use answers::Outcome;
 use testing::first;
@@ -16,35 +16,46 @@ fn print_sample(label: &[u8], out: &[u8]) {
     print_bytes(out);
 }
 
-fn cshake_samples(data: &[u8]) {
+fn cshake(label: &[u8], customisation: &[u8], message: &[u8]) {
     let mut out = [0u8; 64];
-    hash::cshake256(b"", &SIGNATURE, first(data, 4), &mut out);
-    print_sample(b"cSHAKE256 sample 3", &out);
-    hash::cshake256(b"", &SIGNATURE, data, &mut out);
-    print_sample(b"cSHAKE256 sample 4", &out);
-    let mut short = [0u8; 32];
-    hash::cshake256(b"", b"", b"", &mut short);
-    print_sample(b"SHAKE256 of the empty message", &short);
+    hash::cshake256(b"", customisation, message, &mut out);
+    print_sample(label, &out);
+}
+
+fn kmac(label: &[u8], key: &[u8], customisation: &[u8], message: &[u8]) {
+    let mut out = [0u8; 64];
+    hash::kmac256(key, customisation, message, &mut out);
+    print_sample(label, &out);
+}
+
+fn kmacxof(label: &[u8], key: &[u8], customisation: &[u8], message: &[u8]) {
+    let mut out = [0u8; 64];
+    hash::kmacxof256(key, customisation, message, &mut out);
+    print_sample(label, &out);
+}
+
+fn shake_of_nothing() {
+    let mut out = [0u8; 32];
+    hash::cshake256(b"", b"", b"", &mut out);
+    print_sample(b"SHAKE256 of the empty message", &out);
+}
+
+fn cshake_samples(data: &[u8]) {
+    cshake(b"cSHAKE256 sample 3", &SIGNATURE, first(data, 4));
+    cshake(b"cSHAKE256 sample 4", &SIGNATURE, data);
+    shake_of_nothing();
 }
 
 fn kmac_samples(key: &[u8], data: &[u8]) {
-    let mut out = [0u8; 64];
-    hash::kmac256(key, &APPLICATION, first(data, 4), &mut out);
-    print_sample(b"KMAC256 sample 4", &out);
-    hash::kmac256(key, b"", data, &mut out);
-    print_sample(b"KMAC256 sample 5", &out);
-    hash::kmac256(key, &APPLICATION, data, &mut out);
-    print_sample(b"KMAC256 sample 6", &out);
+    kmac(b"KMAC256 sample 4", key, &APPLICATION, first(data, 4));
+    kmac(b"KMAC256 sample 5", key, b"", data);
+    kmac(b"KMAC256 sample 6", key, &APPLICATION, data);
 }
 
 fn kmacxof_samples(key: &[u8], data: &[u8]) {
-    let mut out = [0u8; 64];
-    hash::kmacxof256(key, &APPLICATION, first(data, 4), &mut out);
-    print_sample(b"KMACXOF256 sample 4", &out);
-    hash::kmacxof256(key, b"", data, &mut out);
-    print_sample(b"KMACXOF256 sample 5", &out);
-    hash::kmacxof256(key, &APPLICATION, data, &mut out);
-    print_sample(b"KMACXOF256 sample 6", &out);
+    kmacxof(b"KMACXOF256 sample 4", key, &APPLICATION, first(data, 4));
+    kmacxof(b"KMACXOF256 sample 5", key, b"", data);
+    kmacxof(b"KMACXOF256 sample 6", key, &APPLICATION, data);
 }
 
 fn print_outcome(outcome: Outcome) {
@@ -65,25 +76,45 @@ fn count(key: &[u8], customisation: &[u8], message: &[u8], n: usize) {
 // KMACXOF256 with a key of 32 bytes: both sides of each edge of the table.
 fn counts(key: &[u8], data: &[u8]) {
     print(b"counts\n");
+    output_counts(key);
+    message_counts(key, data);
+    customisation_counts(key, data);
+}
+
+fn output_counts(key: &[u8]) {
     count(key, b"", b"", 32);
     count(key, b"", b"", 0);
     count(key, b"", b"", 136);
     count(key, b"", b"", 137);
+}
+
+fn message_counts(key: &[u8], data: &[u8]) {
     count(key, b"", first(data, 133), 32);
     count(key, b"", first(data, 134), 32);
+}
+
+fn customisation_counts(key: &[u8], data: &[u8]) {
     count(key, first(data, 125), b"", 32);
     count(key, first(data, 126), b"", 32);
 }
 
+fn name(name: &[u8], customisation: &[u8], data: &[u8]) {
+    let mut out = [0u8; 1];
+    print_outcome(hash::cshake256(name, customisation, data, &mut out));
+}
+
+fn kmac_of_no_bytes(data: &[u8]) {
+    let mut out = [0u8; 0];
+    print_outcome(hash::kmac256(b"", b"", data, &mut out));
+}
+
 // Names beside the one that is refused.
 fn names(data: &[u8]) {
-    let mut out = [0u8; 1];
     print(b"names\n");
-    print_outcome(hash::cshake256(b"KMAC", b"", data, &mut out));
-    print_outcome(hash::cshake256(b"kmac", b"", data, &mut out));
-    print_outcome(hash::cshake256(b"KMAC ", b"", data, &mut out));
-    print_outcome(hash::cshake256(b"KMA", b"C", data, &mut out));
-    print_outcome(hash::kmac256(b"", b"", data, &mut out[..0]));
+    name(b"KMAC", b"", data);
+    name(b"kmac", b"", data);
+    name(b"KMAC ", b"", data);
+    name(b"KMA", b"C", data);
 }
 
 fn main() {
@@ -96,4 +127,5 @@ fn main() {
     kmacxof_samples(&key, &data);
     counts(&key, &data);
     names(&data);
+    kmac_of_no_bytes(&data);
 }

@@ -1,11 +1,1 @@
-pub mod Table
-pub mod RcBits
-pub mod RoundConstants
-pub mod Lanes
-pub mod Xor
-pub mod Rotation
-pub mod Linear
-pub mod Cycle
-pub mod ChiForms
-pub mod Complementing
-pub mod Examples
+pub mod Halves

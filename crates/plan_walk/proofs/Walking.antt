@@ -46,6 +46,10 @@ module _ (s : List ℕ) (k : PlanSummary) (e : k ≡ summaryOf s) where
   unfolding walkStart
   start-done z n q = rw (← e, z, q)
 
+pub start-number : (s : List ℕ) → walkStart s .number ≡ summaryOf s .number
+unfolding walkStart
+start-number s = refl
+
 -- an ask
 module _ (s : List ℕ) (c : Cursor) where
   pub step-refused : (c .number ≡ 0 → ⊥) → stay (c .number) c ≡ walkStep s c
@@ -65,3 +69,13 @@ module _ (s : List ℕ) (c : Cursor) where
       go zero (Found row) h = absurd (h refl)
       go zero (NotRow place) h = refl
       go (suc n) r h = refl
+
+  -- and the number is the cursor's
+  pub step-number : walkStep s c .next .number ≡ c .number
+  unfolding walkStep
+  step-number = go (c .number) refl (rowAnswer (c .at) (planNumber (c .at) (drop (c .at) s)))
+    where
+      go : (n : ℕ) → c .number ≡ n → (r : RowRead) → ifDone n (asked c r) (stay (c .number) c) .next .number ≡ c .number
+      go zero e (Found row) = sym e
+      go zero e (NotRow place) = refl
+      go (suc n) e r = refl

@@ -8,7 +8,7 @@ use native.Mathlib.Omega.{arith}
 use lib.Bits.{bitXor}
 use lib.ListN.{length, getD, set, take, drop, drop-of-length-le}
 use lib.Seq.{take-suc-set, drop-set-lt, drop-cons, take-all}
-use Rattle.keccak.proofs.Xor.{twice}
+use Rattle.fips202.specs.Laws.Xor.{twice}
 use Rattle.seal.specs.KeyStream.{combined}
 
 -- what is done, and what is left to do, is all of it

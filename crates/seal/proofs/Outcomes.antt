@@ -7,11 +7,11 @@ use native.Mathlib.Omega.{arith}
 use borrow.Author.Tests.{eqb-true, ltb-false}
 use lib.Dec.{eqb, ltb}
 use lib.ListN.{length, take}
+use Rattle.answers.specs.Laws.{test-passed}
 use Rattle.answers.specs.Done.{firstOf, ifDone}
 use Rattle.calls.specs.Start.{sameBytes}
 use Rattle.calls.specs.Call.{fed}
 use Rattle.calls.specs.Count.{outputRuns, runs}
-use Rattle.calls.specs.Laws.Refusal.{test-passed}
 use Rattle.calls.specs.Laws.Runs.{runs-by-lengths, length-ending}
 use Rattle.sponge.proofs.Whole.{sponge-prefix}
 use Rattle.answers.specs.declared.Outcome.{Outcome}

@@ -8,10 +8,11 @@ use native.Mathlib.Omega.{arith}
 use borrow.Author.Tests.{lt-ltb, le-ltb, eq-eqb}
 use lib.ListN.{length, take, drop, length-drop, length-take}
 use lib.Seq.{length-take-le}
+use Rattle.answers.specs.Laws.{firstOf-passed}
 use Rattle.answers.specs.Done.{firstOf}
 use Rattle.calls.specs.Start.{sameBytes}
 use Rattle.calls.specs.Call.{kmacxof256, fed}
-use Rattle.calls.specs.Laws.Refusal.{firstOf-passed, sameBytes-equal, sameBytes-self}
+use Rattle.calls.specs.Laws.Refusal.{sameBytes-equal, sameBytes-self}
 use Rattle.sponge.specs.Sponge.{sponge}
 use Rattle.sponge.proofs.Whole.{length-sponge, sponge-prefix}
 use Rattle.seal.specs.KeyStream.{combined}

@@ -41,8 +41,10 @@ gave-regular s out q e = absurd (let z : _≡_ {A = ℕ} 0 1 = cc in omega arith
 stays-one : (c : SessionCall) (cs : List SessionCall) (s : Session) → CallCase s c → ((t : Session) → StaysRegular cs t) → StaysRegular (c ∷ cs) s
 unfolding sessionAfter
 stays-one c cs s (refused k e) ih h = subst (λ (t : SessionAnswer). Regular (sessionAfter (t .session) cs)) (sym e) (ih s h)
-stays-one c cs s (took {m} p ph bounded e) ih h = subst (λ (t : SessionAnswer). Regular (sessionAfter (t .session) cs)) (sym e) (ih (tookTo s p m) (took-regular s p m bounded))
-stays-one c cs s (gave {out} bounded e f) ih h = subst (λ (t : SessionAnswer). Regular (sessionAfter (t .session) cs)) (sym e) (ih (gaveTo s out) (gave-regular s out))
+stays-one c cs s (took {m} p ph bounded e) ih h =
+    subst (λ (t : SessionAnswer). Regular (sessionAfter (t .session) cs)) (sym e) (ih (tookTo s p m) (took-regular s p m bounded))
+stays-one c cs s (gave {out} bounded e f) ih h =
+    subst (λ (t : SessionAnswer). Regular (sessionAfter (t .session) cs)) (sym e) (ih (gaveTo s out) (gave-regular s out))
 
 pub stays-regular : (cs : List SessionCall) (s : Session) → StaysRegular cs s
 stays-regular = by-case StaysRegular stays-none stays-one
@@ -56,7 +58,8 @@ taken-none s p e below bounded =
     let n : s .taken + 0 ≡ s .taken = add-zero (s .taken) in
     let passed : s .taken + 0 ≤ maxMessage = omega arith in
     ap (λ (ph : Phase). takingIn ph s [] .session) e
-    ∙ ap (λ (b : Bool). cond b (sessionAnswer 5 s) (sessionAnswer 0 (afterTaking s 0 (running (s .lanes) (p % 136)))) .session) (le-ltb maxMessage (s .taken + 0) passed)
+    ∙ ap (λ (b : Bool). cond b (sessionAnswer 5 s) (sessionAnswer 0 (afterTaking s 0 (running (s .lanes) (p % 136)))) .session)
+    (le-ltb maxMessage (s .taken + 0) passed)
     ∙ (λ j. record { lanes = s .lanes; phase = i j; taken = n j; given = s .given; limit = s .limit; suffix = s .suffix; kmac = s .kmac })
 
 giving-none : (s : Session) (p : ℕ) → s .phase ≡ Giving p → taking s [] .session ≡ s

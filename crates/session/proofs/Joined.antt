@@ -20,7 +20,7 @@ use Rattle.session.specs.declared.Phase.the-variants.{Taking}
 use Rattle.session.specs.declared.Session.{Session}
 use Rattle.session.specs.Session.{sessionAnswer, initial, startedSession, isKmac, begun, inputEnd}
 use Rattle.session.specs.History.{SessionCall, sessionAfter, acceptedPieces, output}
-use Rattle.session.specs.Joined.{JoinedBytes}
+use Rattle.session.specs.Joined.{JoinedBytes, JoinedBytesRule}
 use Rattle.session.proofs.EmptyPiece.{Regular, stays-regular, empty-piece}
 use Rattle.session.proofs.Totals.{takes-few, gives-few}
 use Rattle.session.proofs.Given.{sourceAfter, gives-joined}
@@ -69,7 +69,7 @@ call-given s X n d =
 
 -- ---- the rule
 
-pub joined-bytes : (s : Start) → startRefusal s ≡ 0 → (cs : List SessionCall) → JoinedBytes s cs
+pub joined-bytes : JoinedBytesRule
 joined-bytes s h cs =
     let b : Session = initial (afterPrefix s) (isKmac s) in
     let e : begun s ≡ sessionAnswer 0 b = begun-accepted s h in

@@ -22,11 +22,13 @@ session a ph t g x k = record { lanes = a; phase = ph; taken = t; given = g; lim
 
 -- a call that is refused with r or leads to the session t
 number-one : (refuse : Bool) (r : ℕ) (s t : Session) (cs : List SessionCall) (l m : List ℕ) → numbers s cs ≡ l → numbers t cs ≡ m
-    → cond refuse (sessionAnswer r s) (sessionAnswer 0 t) .number ∷ numbers (cond refuse (sessionAnswer r s) (sessionAnswer 0 t) .session) cs ≡ cond refuse (r ∷ l) (0 ∷ m)
+    → cond refuse (sessionAnswer r s) (sessionAnswer 0 t) .number ∷ numbers (cond refuse (sessionAnswer r s) (sessionAnswer 0 t) .session) cs
+    ≡ cond refuse (r ∷ l) (0 ∷ m)
 number-one true r s t cs l m h i = ap (λ (n : List ℕ). r ∷ n) h
 number-one false r s t cs l m h i = ap (λ (n : List ℕ). 0 ∷ n) i
 
-pub numbers-table : (cs : List SessionCall) (a : List ℕ) (ph : Phase) (t g x : ℕ) (k : Bool) → numbers (session a ph t g x k) cs ≡ tableNumbers (isGiving ph) t g cs
+pub numbers-table : (cs : List SessionCall) (a : List ℕ) (ph : Phase) (t g x : ℕ) (k : Bool)
+    → numbers (session a ph t g x k) cs ≡ tableNumbers (isGiving ph) t g cs
 unfolding numbers tableNumbers called takingIn giving
 numbers-table [] a ph t g x k = refl
 numbers-table (takes m ∷ cs) a (Taking p) t g x k =

@@ -40,7 +40,8 @@ gives-few-one c cs s (refused k e) ih h = rw e (ih s h)
 gives-few-one c cs s (took {m} p ph bounded e) ih h = rw e (ih (tookTo s p m) h)
 gives-few-one c cs s (gave {out} bounded e f) ih h =
     let from : Running = givingSponge (s .phase) s in
-    rw (e, f) (omega (arith, ih (gaveTo s out) bounded, length-append (squeezed (length out) from) (output (gaveTo s out) cs), length-squeezed (length out) from))
+    rw (e, f)
+    (omega (arith, ih (gaveTo s out) bounded, length-append (squeezed (length out) from) (output (gaveTo s out) cs), length-squeezed (length out) from))
 
 pub gives-few : (cs : List SessionCall) (s : Session) → GivesFew cs s
 gives-few = by-case GivesFew gives-few-none gives-few-one

@@ -4,6 +4,7 @@ use mathlib.Core.List.{List, [], _∷_, _++_}
 use Prim.Native.Nat.{ℕ, _+_}
 use lib.Dec.{ltb}
 use lib.ListN.{length}
+use Rattle.answers.specs.Numbers.{done, wrongState, inputTooLong, badOutputLength}
 use Rattle.answers.specs.Done.{ifDone}
 use Rattle.calls.specs.Limits.{maxMessage, maxOutput}
 use Rattle.session.specs.declared.Session.{Session}
@@ -48,12 +49,12 @@ unfoldable pub output : Session → List SessionCall → List ℕ
 output s [] = []
 output s (c ∷ cs) = ifDone (called s c .number) (givenBy s c) [] ++ output (called s c .session) cs
 
--- The table's numbers (document 01, 'Numbers a caller gets back') for calls in a row, by what was accepted before: whether the session is giving, for which
+-- The table's numbers (docs/RULES.md, 'Numbers') for calls in a row, by what was accepted before: whether the session is giving, for which
 -- an ask for no bytes is enough, and the totals taken and given.
 unfoldable pub tableNumbers : Bool → ℕ → ℕ → List SessionCall → List ℕ
 tableNumbers isGiving t g [] = []
 tableNumbers isGiving t g (takes m ∷ cs) =
-    cond isGiving (1 ∷ tableNumbers isGiving t g cs)
-    (cond (ltb maxMessage (t + length m)) (5 ∷ tableNumbers isGiving t g cs) (0 ∷ tableNumbers isGiving (t + length m) g cs))
+    cond isGiving (wrongState ∷ tableNumbers isGiving t g cs)
+    (cond (ltb maxMessage (t + length m)) (inputTooLong ∷ tableNumbers isGiving t g cs) (done ∷ tableNumbers isGiving (t + length m) g cs))
 tableNumbers isGiving t g (gives out ∷ cs) =
-    cond (ltb maxOutput (g + length out)) (6 ∷ tableNumbers isGiving t g cs) (0 ∷ tableNumbers true t (g + length out) cs)
+    cond (ltb maxOutput (g + length out)) (badOutputLength ∷ tableNumbers isGiving t g cs) (done ∷ tableNumbers true t (g + length out) cs)

@@ -1,11 +1,11 @@
--- The joined-bytes rule (document 01, 'Running sessions'): 'for any order of calls from an accepted start, the bytes given, joined, are the first bytes of
+-- The joined-bytes rule (docs/RULES.md, 'Sessions'): 'for any order of calls from an accepted start, the bytes given, joined, are the first bytes of
 -- the one-shot answer over the accepted pieces, joined'. It is proved in proofs/Joined.antt.
 use mathlib.Core.Bool.{false}
 use mathlib.Core.Path.{_≡_}
 use mathlib.Core.List.{List, []}
 use Prim.Native.Nat.{ℕ, _≤_}
 use lib.ListN.{length, take}
-use Rattle.calls.specs.Start.{Start}
+use Rattle.calls.specs.Start.{Start, startRefusal}
 use Rattle.calls.specs.Call.{Accepted, fed, extendableCall}
 use Rattle.sponge.specs.Sponge.{sponge}
 use Rattle.session.specs.Session.{begun, taking}
@@ -30,3 +30,7 @@ pub record JoinedBytes (s : Start) (cs : List SessionCall) : Type 0 where
   -- and the bytes given are the first bytes of its answer, which a longer output begins with too
   pub joined : (d : ℕ) → length (joinedOutput s cs) ≤ d
       → joinedOutput s cs ≡ take (length (joinedOutput s cs)) (sponge (fed (extendableCall s (joinedPieces s cs) d)) d)
+
+-- for every start that is accepted, and any calls in any order
+abbrev pub JoinedBytesRule : Type 0
+JoinedBytesRule = (s : Start) → startRefusal s ≡ 0 → (cs : List SessionCall) → JoinedBytes s cs

@@ -1,11 +1,12 @@
--- Running sessions (document 01, 'Running sessions'): what each call hands back, as a function of the session's value.
--- Of a session that a caller made up by hand document 01 leaves the result free. Here it is fixed all the same: a position at which the block is full, or
+-- Running sessions (docs/RULES.md, 'Sessions'): what each call hands back, as a function of the session's value.
+-- Of a session that a caller made up by hand docs/RULES.md leaves the result free. Here it is fixed all the same: a position at which the block is full, or
 -- beyond, is taken modulo 136 by a taking session and followed by the next block in a giving one; totals and limit are compared as they stand.
 use mathlib.Core.Bool.{Bool, true, false, cond}
 use mathlib.Core.List.{List, []}
 use Prim.Native.Nat.{ℕ, _+_, _%_}
 use lib.Dec.{ltb, eqb}
 use lib.ListN.{length, replicate}
+use Rattle.answers.specs.Numbers.{done, wrongState, inputTooLong, badOutputLength}
 use Rattle.encode.specs.Encode.{rightEncode}
 use Rattle.calls.specs.Limits.{maxMessage, maxOutput}
 use Rattle.calls.specs.Start.{Start, named, keyed}
@@ -49,7 +50,7 @@ unstarted =
     }
 
 unfoldable pub startedSession : Started → Bool → SessionAnswer
-startedSession t k = cond (eqb (t .number) 0) (sessionAnswer 0 (initial t k)) (sessionAnswer (t .number) unstarted)
+startedSession t k = cond (eqb (t .number) 0) (sessionAnswer done (initial t k)) (sessionAnswer (t .number) unstarted)
 
 -- whether right_encode(0) follows the message
 abbrev pub isKmac : Start → Bool
@@ -77,9 +78,9 @@ afterTaking s n u =
 
 unfoldable pub takingIn : Phase → Session → List ℕ → SessionAnswer
 takingIn (Taking p) s m =
-    cond (ltb maxMessage (s .taken + length m)) (sessionAnswer 5 s)
-    (sessionAnswer 0 (afterTaking s (length m) (absorbed (running (s .lanes) (p % 136)) m)))
-takingIn (Giving p) s m = sessionAnswer 1 s
+    cond (ltb maxMessage (s .taken + length m)) (sessionAnswer inputTooLong s)
+    (sessionAnswer done (afterTaking s (length m) (absorbed (running (s .lanes) (p % 136)) m)))
+takingIn (Giving p) s m = sessionAnswer wrongState s
 
 -- a piece m
 abbrev pub taking : Session → List ℕ → SessionAnswer
@@ -112,7 +113,7 @@ afterGiving s n u =
 
 -- an ask for n bytes
 unfoldable pub giving : Session → ℕ → SessionAnswer
-giving s n = cond (ltb (s .limit) (s .given + n)) (sessionAnswer 6 s) (sessionAnswer 0 (afterGiving s n (after n (givingSponge (s .phase) s))))
+giving s n = cond (ltb (s .limit) (s .given + n)) (sessionAnswer badOutputLength s) (sessionAnswer done (afterGiving s n (after n (givingSponge (s .phase) s))))
 
 -- the lent output after the ask
 unfoldable pub filled : Session → List ℕ → List ℕ

@@ -1,4 +1,4 @@
--- A session that could not start (document 01, 'Numbers a caller gets back'): giving, with nothing to give. It is proved in proofs/Unstarted.antt.
+-- A session that could not start (docs/RULES.md, 'Numbers'): giving, with nothing to give. It is proved in proofs/Unstarted.antt.
 use mathlib.Core.Path.{_≡_}
 use mathlib.Core.List.{List}
 use Prim.Native.Nat.{ℕ, _<_}
@@ -12,3 +12,7 @@ pub record Unstarted (s : Start) : Type 0 where
   pub giveNone : giving (begun s .session) 0 ≡ sessionAnswer 0 (begun s .session)
   pub give : (n : ℕ) → 0 < n → giving (begun s .session) n ≡ sessionAnswer 6 (begun s .session)
   pub unwritten : (out : List ℕ) → filled (begun s .session) out ≡ out
+
+-- for every start that is refused
+abbrev pub CouldNotStart : Type 0
+CouldNotStart = (s : Start) → (startRefusal s ≡ 0 → ⊥) → Unstarted s

@@ -1,4 +1,4 @@
-// Running sessions over cSHAKE256 and KMACXOF256 (document 01, 'Running sessions'): the message taken in pieces, then the output given in portions.
+// Running sessions over cSHAKE256 and KMACXOF256 (docs/RULES.md, 'Sessions'): the message taken in pieces, then the output given in portions.
 // A session is passed by value and handed back with the number of the table; a refusal hands back the same session and writes nothing.
 ghost use mathlib.Core.Path.{_≡_};
 ghost use Prim.Native.Nat.{_%_};
@@ -6,6 +6,11 @@ ghost use lib.ListN.{length};
 ghost use Rattle.calls.specs.Start.{named, keyed};
 ghost use Rattle.sponge.specs.Running.{running, absorbed, finished};
 ghost use Rattle.session.specs.Session.{sessionAnswer, startedSession, begun, taking, inputEnd, givingSponge, giving, filled};
+use answers::BAD_OUTPUT_LENGTH;
+use answers::DONE;
+use answers::INPUT_TOO_LONG;
+use answers::WRONG_STATE;
+use answers::over_total;
 use calls::MAX_MESSAGE;
 use calls::MAX_OUTPUT;
 use sponge::absorb;
@@ -58,7 +63,7 @@ fn start_session(start: Started, kmac: bool) -> SessionAnswer
     ensures { λ r. ⌜ r ≡ startedSession start kmac ⌝ }
 {
     let number = start.number;
-    if number != 0 {
+    if number != DONE {
         return SessionAnswer {
             number,
             session: Session {
@@ -74,7 +79,7 @@ fn start_session(start: Started, kmac: bool) -> SessionAnswer
     }
     let lanes = start.lanes;
     SessionAnswer {
-        number: 0,
+        number: DONE,
         session: Session {
             lanes,
             phase: Phase::Taking(0),
@@ -107,19 +112,17 @@ pub fn take(s: Session, piece: &[u8]) -> SessionAnswer
 {
     let phase = s.phase;
     let Phase::Taking(at) = phase else {
-        return refuse(1, s);
+        return refuse(WRONG_STATE, s);
     };
     let taken = s.taken;
-    if MAX_MESSAGE < taken {
-        return refuse(5, s);
-    }
-    if MAX_MESSAGE - taken < piece.len() {
-        return refuse(5, s);
+    let number = over_total(taken, piece.len(), MAX_MESSAGE, INPUT_TOO_LONG);
+    if number != DONE {
+        return refuse(number, s);
     }
     let mut lanes = s.lanes;
     let position = absorb(&mut lanes, at, piece);
     SessionAnswer {
-        number: 0,
+        number: DONE,
         session: Session {
             lanes,
             phase: Phase::Taking(position),
@@ -169,17 +172,15 @@ pub fn give(s: Session, out: &mut [u8]) -> SessionAnswer
     let given = s.given;
     let limit = s.limit;
     let n = out.len();
-    if limit < given {
-        return refuse(6, s);
-    }
-    if limit - given < n {
-        return refuse(6, s);
+    let number = over_total(given, n, limit, BAD_OUTPUT_LENGTH);
+    if number != DONE {
+        return refuse(number, s);
     }
     let from = giving_sponge(s);
     let mut lanes = from.lanes;
     let position = squeeze(&mut lanes, from.position, out);
     SessionAnswer {
-        number: 0,
+        number: DONE,
         session: Session {
             lanes,
             phase: Phase::Giving(position),

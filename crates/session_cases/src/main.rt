@@ -1,4 +1,4 @@
-// Running sessions (document 01): one message cut in many ways gives one answer, and refusals in every phase. The expected output is that of
+// Running sessions (docs/RULES.md): one message cut in many ways gives one answer, and refusals in every phase. The expected output is that of
 // reference/session_cases.py.
 mod cuts;
 mod limits;

@@ -4,7 +4,7 @@ use crate::steps::ask;
 use crate::steps::ask_none;
 use crate::steps::piece;
 use session::Session;
-use session::Step;
+use session::SessionAnswer;
 use session::start_cshake256;
 use session::start_kmacxof256;
 use testing::print;
@@ -59,7 +59,7 @@ fn longest() {
 }
 
 // The number, then those for an empty piece, a byte taken, no byte asked for, an empty piece again and a byte asked for; the lent byte after it.
-fn unstarted(label: &[u8], start: Step) {
+fn unstarted(label: &[u8], start: SessionAnswer) {
     let mut out = [0xaau8];
     print(label);
     answer(start.number);
@@ -71,7 +71,7 @@ fn unstarted(label: &[u8], start: Step) {
 }
 
 // The number, and 32 bytes given before any piece.
-fn started(label: &[u8], start: Step) {
+fn started(label: &[u8], start: SessionAnswer) {
     let mut out = [0u8; 32];
     print(label);
     answer(start.number);

@@ -9,15 +9,15 @@ pub fn answer(k: u8) {
 }
 
 pub fn piece(s: Session, bytes: &[u8]) -> Session {
-    let step = session::take(s, bytes);
-    answer(step.number);
-    step.session
+    let after = session::take(s, bytes);
+    answer(after.number);
+    after.session
 }
 
 pub fn ask(s: Session, out: &mut [u8]) -> Session {
-    let step = session::give(s, out);
-    answer(step.number);
-    step.session
+    let after = session::give(s, out);
+    answer(after.number);
+    after.session
 }
 
 pub fn ask_none(s: Session) -> Session {

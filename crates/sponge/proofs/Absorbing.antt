@@ -8,7 +8,7 @@ use native.Mathlib.Numerals.{add-one}
 use lib.ListN.{length, getD, set, take, drop, take-append-drop, length-take, length-drop}
 use lib.Seq.{take-suc, take-add, sets, sets-eq, take-nil, drop-length}
 use borrow.Author.Tests.{lt-ltb, le-ltb}
-use Rattle.keccak.specs.Fips202.{keccakP}
+use Rattle.fips202.specs.Fips202.{keccakP}
 use Rattle.sponge.specs.Sponge.{xorByte, xorBytes, byteAt, bytesAt, absorb, squeeze}
 use Rattle.sponge.specs.Running.{Running, running, absorbByte, absorbed, refreshed, squeezedByte, afterByte, squeezed, after}
 

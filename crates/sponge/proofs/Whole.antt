@@ -8,7 +8,7 @@ use native.Mathlib.Omega.{arith}
 use borrow.Author.Tests.{lt-ltb, le-ltb}
 use lib.ListN.{length, set, getD, take, drop, replicate, length-append, length-set, length-replicate}
 use lib.Seq.{take-append-le, take-append-add, take-length, take-at, drop-at}
-use Rattle.keccak.specs.Fips202.{keccakP}
+use Rattle.fips202.specs.Fips202.{keccakP}
 use Rattle.encode.specs.Padding.{padding, padded}
 use Rattle.encode.specs.Laws.Padding.{padded-split, padding-set, length-padding}
 use Rattle.encode.specs.Laws.Lengths.{length-padded}

@@ -11,7 +11,7 @@ use lib.Seq.{set-getD, getD-drop, take-add, drop-drop, length-take-le, sets}
 use Rattle.sponge.specs.Sponge.{xorByte, xorBytes, byteAt, bytesAt}
 use Rattle.sponge.specs.LittleEndian.{fromBytes, toBytes}
 use Rattle.sponge.proofs.Absorbing.{sets-append, bytesAt-append, length-bytesAt}
-use Rattle.keccak.proofs.Xor.{xor-assoc, xor-scale}
+use Rattle.fips202.specs.Laws.Xor.{xor-assoc, xor-scale}
 use Rattle.sponge.proofs.XorBytes.{upd-upd, xorBytes-append}
 
 -- ---- reading

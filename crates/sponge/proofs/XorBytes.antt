@@ -11,7 +11,7 @@ use lib.Pow.{pow-pos, pow-add}
 use lib.Bits.{bitXor, differ, xor-step, xor-shr, xor-mod, xor-comm, xor-zero-l, xor-zero-r, xor-block, xor-shifted}
 use lib.ListN.{length, getD, set, replicate}
 use lib.Seq.{set-getD, set-comm, getD-set-other}
-use Rattle.keccak.proofs.Xor.{xor-assoc, xor-scale, xor-swap}
+use Rattle.fips202.specs.Laws.Xor.{xor-assoc, xor-scale, xor-swap}
 use Rattle.sponge.specs.Sponge.{xorByte, xorBytes}
 
 -- ---- a lane changed twice

@@ -6,7 +6,7 @@ use mathlib.Core.List.{List, [], _∷_}
 use Prim.Native.Nat.{ℕ, zero, suc, _+_}
 use lib.Dec.{ltb}
 use lib.ListN.{replicate}
-use Rattle.keccak.specs.Fips202.{keccakP}
+use Rattle.fips202.specs.Fips202.{keccakP}
 use Rattle.sponge.specs.Sponge.{xorByte, byteAt}
 
 pub record Running : Type 0 where

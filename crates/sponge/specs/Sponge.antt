@@ -3,7 +3,7 @@ use Prim.Native.Nat.{ℕ, zero, suc, _+_, _*_, _/_, _%_, _^_}
 use mathlib.Core.List.{List, [], _∷_, _++_}
 use lib.ListN.{length, set, getD, take, drop, replicate}
 use lib.Bits.{bitXor}
-use Rattle.keccak.specs.Fips202.{keccakP}
+use Rattle.fips202.specs.Fips202.{keccakP}
 
 -- Byte p of the state is byte p % 8 of lane p / 8, the low byte first (3.1.2 and B.1).
 

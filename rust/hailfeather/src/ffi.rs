@@ -3,6 +3,10 @@
 
 use std::mem::{offset_of, size_of};
 
+/// HF_VERSION of the header: 0.1.0.
+#[cfg(test)]
+pub const VERSION: u32 = 100;
+
 #[repr(C)]
 pub struct hf_outcome {
     pub runs: usize,
@@ -19,7 +23,7 @@ pub struct hf_session {
     pub position: usize,
     pub phase: u8,
     pub suffix: u8,
-    pub keyed: u8,
+    pub kmac: u8,
 }
 
 #[repr(C)]
@@ -68,6 +72,7 @@ pub struct hf_length {
     pub number: u8,
 }
 
+#[derive(Clone, Copy, Debug)]
 #[repr(C)]
 pub struct hf_cursor {
     pub at: usize,
@@ -82,6 +87,8 @@ pub struct hf_walk {
 }
 
 extern "C" {
+    #[cfg(test)]
+    pub fn hf_version() -> u32;
     pub fn hf_keccak_p(lanes: *mut u64);
     pub fn hf_cshake256(
         name: *const u8,
@@ -164,7 +171,7 @@ extern "C" {
     pub fn hf_plan_length(rows: *const u32, rows_length: usize) -> hf_length;
     pub fn hf_plan_write(rows: *const u32, rows_length: usize, out: *mut u8, out_length: usize) -> u8;
     pub fn hf_plan_start(plan: *const u8, plan_length: usize) -> hf_cursor;
-    pub fn hf_plan_step(plan: *const u8, plan_length: usize, at: usize, number: u8) -> hf_walk;
+    pub fn hf_plan_step(plan: *const u8, plan_length: usize, walk: hf_cursor) -> hf_walk;
 }
 
 /// Puts `with` in place of a secret by a volatile write, which is made even though the secret is never read again.
@@ -176,7 +183,7 @@ pub fn overwrite<T: Copy>(secret: &mut T, with: T) {
 // What a C compiler for x86-64 makes of the header's structs: size, and the place of the last field.
 const _: () = {
     assert!(size_of::<hf_outcome>() == 16 && offset_of!(hf_outcome, number) == 8);
-    assert!(size_of::<hf_session>() == 240 && offset_of!(hf_session, taken) == 200 && offset_of!(hf_session, keyed) == 234);
+    assert!(size_of::<hf_session>() == 240 && offset_of!(hf_session, taken) == 200 && offset_of!(hf_session, kmac) == 234);
     assert!(size_of::<hf_step>() == 248 && offset_of!(hf_step, number) == 240);
     assert!(size_of::<hf_generator>() == 65 && offset_of!(hf_generator, seeded) == 64);
     assert!(size_of::<hf_draw>() == 88 && offset_of!(hf_draw, runs) == 72 && offset_of!(hf_draw, number) == 80);

@@ -90,6 +90,6 @@ mod session;
 
 pub use generator::Generator;
 pub use hash::{cshake256, keccak_p, kmac256, kmacxof256};
-pub use refusal::{refusals, Refusal, Runs};
+pub use refusal::{refusals, Reason, Refusal, Runs};
 pub use seal::{open, seal};
 pub use session::Session;

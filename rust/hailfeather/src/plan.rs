@@ -149,7 +149,7 @@ pub fn to_vec(destinations: &[u32]) -> Result<Vec<u8>, Refusal> {
 #[derive(Clone, Debug)]
 pub struct Walk<'a> {
     plan: &'a [u8],
-    at: usize,
+    cursor: ffi::hf_cursor,
     left: usize,
 }
 
@@ -169,7 +169,7 @@ impl<'a> Walk<'a> {
         check("plan_start", cursor.number)?;
         Ok(Walk {
             plan,
-            at: cursor.at,
+            cursor,
             left: rows(plan)? as usize,
         })
     }
@@ -180,11 +180,11 @@ impl Iterator for Walk<'_> {
 
     fn next(&mut self) -> Option<u32> {
         // SAFETY: as in `rows`.
-        let step = unsafe { ffi::hf_plan_step(self.plan.as_ptr(), self.plan.len(), self.at, 0) };
+        let step = unsafe { ffi::hf_plan_step(self.plan.as_ptr(), self.plan.len(), self.cursor) };
         if step.number != 0 {
             return None; // 10, past the last row: the plan was read whole, and cannot change while it is lent
         }
-        self.at = step.next;
+        self.cursor.at = step.next;
         self.left -= 1;
         Some(step.destination)
     }

@@ -28,7 +28,57 @@ pub struct Refusal {
     words: &'static str,
 }
 
+/// What a refusal's number stands for, whichever entry gave it. Later versions may have more.
+#[derive(Clone, Copy, Debug, PartialEq, Eq, Hash)]
+#[non_exhaustive]
+pub enum Reason {
+    /// 1: a session that is giving was asked to take, or a generator that was never seeded to draw.
+    WrongState = 1,
+    /// 2: a key has a length that it may not have.
+    BadKeyLength = 2,
+    /// 3: a name, customisation, IV, additional input or personalisation is too long.
+    StringTooLong = 3,
+    /// 4: the name belongs to the standard's own function.
+    ReservedName = 4,
+    /// 5: a message, text with label, seed or plan is too long.
+    InputTooLong = 5,
+    /// 6: an output has a length that it may not have.
+    BadOutputLength = 6,
+    /// 7: a tag is too short or too long.
+    BadTagLength = 7,
+    /// 8: the tag does not match.
+    TagMismatch = 8,
+    /// 9: a plan is malformed, or rows cannot be written as one.
+    MalformedPlan = 9,
+    /// 10: the plan has no such chute.
+    NoSuchChute = 10,
+}
+
+/// Every reason, the one with number n at n - 1.
+const REASONS: [Reason; 10] = [
+    Reason::WrongState,
+    Reason::BadKeyLength,
+    Reason::StringTooLong,
+    Reason::ReservedName,
+    Reason::InputTooLong,
+    Reason::BadOutputLength,
+    Reason::BadTagLength,
+    Reason::TagMismatch,
+    Reason::MalformedPlan,
+    Reason::NoSuchChute,
+];
+
 impl Refusal {
+    /// What the number stands for, to match on.
+    ///
+    /// ```
+    /// use hailfeather::{plan, Reason};
+    /// assert_eq!(plan::destination(&[0x01, 0x07], 2).unwrap_err().reason(), Reason::NoSuchChute);
+    /// ```
+    pub fn reason(self) -> Reason {
+        REASONS[usize::from(self.number) - 1]
+    }
+
     /// The refusal's number, 1 to 10. Where several apply, the smallest is given.
     ///
     /// ```
@@ -142,6 +192,20 @@ mod tests {
             assert_eq!(line, format!("{entry} {number} {words}"));
             assert_eq!(check(entry, number), Err(Refusal { number, words }));
         }
+    }
+
+    #[test]
+    fn a_reason_has_its_number() {
+        for (_, number, words) in lines() {
+            assert_eq!(Refusal { number, words }.reason() as u8, number);
+        }
+        assert!((1..).zip(REASONS).all(|(number, reason)| reason as u8 == number));
+    }
+
+    #[test]
+    fn the_archive_is_of_this_version() {
+        // SAFETY: the function takes nothing.
+        assert_eq!(unsafe { ffi::hf_version() }, ffi::VERSION);
     }
 
     #[test]

@@ -15,7 +15,7 @@ const ZERO: ffi::hf_session = ffi::hf_session {
     position: 0,
     phase: 0,
     suffix: 0,
-    keyed: 0,
+    kmac: 0,
 };
 
 /// A hash function that takes its message in pieces and then gives its output in portions.

@@ -14,7 +14,8 @@ use Rattle.calls.specs.Start.{Start, named, keyed, startPrefix, startSuf
 use Rattle.calls.specs.Call.{Function, Call, cshake256, kmac256, kmacxof256, startOf, messageOf, outputBytes, kmacInput, fed, ending, extendable, extendableCall}
 use Rattle.calls.specs.Laws.Input.{cshakePrefix-blocks}
 
-kmac-parts : (K X : List ℕ) (L : ℕ) (S : List ℕ) → fedBytes (kmacInput K X L S) ≡ padded (startSuffix (keyed K S)) (startPrefix (keyed K S) ++ X ++ rightEncode L)
+kmac-parts : (K X : List ℕ) (L : ℕ) (S : List ℕ)
+    → fedBytes (kmacInput K X L S) ≡ padded (startSuffix (keyed K S)) (startPrefix (keyed K S) ++ X ++ rightEncode L)
 unfolding fedBytes startPrefix startSuffix
 kmac-parts K X L S = ap (padded 0x04) (simp append-assoc)
 
@@ -52,14 +53,17 @@ startPrefix-blocks (keyed K S) =
     rw length-append (omega (arith, cshakePrefix-blocks KMAC S, bytepad-blocks (encodeString K)))
 
 -- so it stands before the padded message as it is
-pub fed-after-prefix : {f : Function} (c : Call f) → fed c ≡ startPrefix (startOf c) ++ padded (startSuffix (startOf c)) (messageOf c ++ ending f (outputBytes c))
+pub fed-after-prefix : {f : Function} (c : Call f)
+    → fed c ≡ startPrefix (startOf c) ++ padded (startSuffix (startOf c)) (messageOf c ++ ending f (outputBytes c))
 fed-after-prefix {f} c =
     fed-parts c
     ∙ rw append-assoc
     (padded-after (startSuffix (startOf c)) (startPrefix (startOf c)) (messageOf c ++ ending f (outputBytes c)) (startPrefix-blocks (startOf c)))
 
 -- key, message and encoded number can be told apart
-pub kmacMessage-fixes : (K X K′ X′ : List ℕ) (L L′ : ℕ) → bytepad (encodeString K) 136 ++ X ++ rightEncode L ≡ bytepad (encodeString K′) 136 ++ X′ ++ rightEncode L′ → (K ≡ K′) × (X ≡ X′) × (L ≡ L′)
+pub kmacMessage-fixes : (K X K′ X′ : List ℕ) (L L′ : ℕ)
+    → bytepad (encodeString K) 136 ++ X ++ rightEncode L ≡ bytepad (encodeString K′) 136 ++ X′ ++ rightEncode L′
+    → (K ≡ K′) × (X ≡ X′) × (L ≡ L′)
 kmacMessage-fixes K X K′ X′ L L′ e =
     let r = rightEncode-free L L′ (bytepad (encodeString K) 136 ++ X) (bytepad (encodeString K′) 136 ++ X′) e in
     let s = bytepad-free encodeString 136 encodeString-free K K′ X X′ (r .1) in

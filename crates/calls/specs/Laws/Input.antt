@@ -48,7 +48,8 @@ pub fedBytes-fixes : (i j : Input) → fedBytes i ≡ fedBytes j → i ≡ j
 unfolding fedBytes
 fedBytes-fixes i j e = go (isShake (i .name) (i .customisation)) (isShake (j .name) (j .customisation)) refl refl e
   where
-    go : (s t : Bool) → isShake (i .name) (i .customisation) ≡ s → isShake (j .name) (j .customisation) ≡ t → padded (cond s 0x1f 0x04) (unpadded s i) ≡ padded (cond t 0x1f 0x04) (unpadded t j) → i ≡ j
+    go : (s t : Bool) → isShake (i .name) (i .customisation) ≡ s → isShake (j .name) (j .customisation) ≡ t
+        → padded (cond s 0x1f 0x04) (unpadded s i) ≡ padded (cond t 0x1f 0x04) (unpadded t j) → i ≡ j
     go true true p q e =
         let r = padded-fixes 0x1e 0x1e (i .message) (j .message) (omega arith) (omega arith) e in
         let a = isShake-empty (i .name) (i .customisation) p in

@@ -36,7 +36,8 @@ loop-less c = omega arith
 loop-again : tie.Need-loop-again Inv-loop μ-loop
 loop-again c =
     let h = c .before in
-    (omega arith, simp length-set (h .loop .inv .1), store-one (h .loop .out) (h .before .args .at) (h .loop .i) (h .loop .x) (omega arith) (omega arith) ∙ h .loop .inv .2)
+    let k = h .loop in
+    (omega arith, simp length-set (k .inv .1), store-one (k .out) (h .before .args .at) (k .i) (k .x) (omega arith) (omega arith) ∙ k .inv .2)
 
 same-length : tie.Need-same-length Inv-loop μ-loop
 same-length c = c .before .loop .inv .1

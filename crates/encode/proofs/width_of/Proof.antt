@@ -27,8 +27,9 @@ loop-again : tie.Need-loop-again Inv-loop μ-loop
 loop-again c =
     let x = c .before .loop .x in
     let n = c .before .before .args .n in
-    omega
-    (arith, width-big 256 (omega arith) x (c .loop-test .taken), width-pos 256 (omega arith) (x / 256) (x / 256), width-fewest 256 (omega arith) n n 8 (omega arith) (omega arith))
+    let big = width-big 256 (omega arith) x (c .loop-test .taken) in
+    let fewest = width-fewest 256 (omega arith) n n 8 (omega arith) (omega arith) in
+    omega (arith, big, width-pos 256 (omega arith) (x / 256) (x / 256), fewest)
 
 returns : tie.Need-returns Inv-loop μ-loop
 returns c = omega (arith, width-small 256 (omega arith) (c .before .loop .x) (c .loop-test .left))

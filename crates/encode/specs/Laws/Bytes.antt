@@ -5,7 +5,7 @@ use native.Mathlib.Omega.{arith}
 use lib.Bits.{bitXor, xor-lt}
 use lib.ListN.{length, getD, set, replicate}
 use Rattle.encode.specs.Digits.{digits, width}
-use Rattle.encode.specs.Padding.{shortfall, padTo, withLastBit, padded}
+use Rattle.encode.specs.Padding.{rate, shortfall, padTo, withLastBit, padded}
 use Rattle.encode.specs.Encode.{bigEndian, leftEncode, rightEncode, encodeString, bytepad}
 use Rattle.encode.specs.Laws.Digits.{width-fewest}
 use Rattle.encode.specs.Laws.Lengths.{length-bigEndian}
@@ -75,7 +75,7 @@ bytepad-bytes x w h p = padTo-bytes w (leftEncode w ++ x) (append-bytes (leftEnc
 pub padded-bytes : (s : ℕ) (m : List ℕ) → s < 256 → Bytes m → Bytes (padded s m)
 unfolding padded withLastBit
 padded-bytes s m h p =
-    let l : List ℕ = padTo 136 (m ++ (s ∷ [])) in
+    let l : List ℕ = padTo rate (m ++ (s ∷ [])) in
     let k : ℕ = length l - 1 in
-    let q : Bytes l = padTo-bytes 136 (m ++ (s ∷ [])) (append-bytes m (s ∷ []) p (h, tt)) in
+    let q : Bytes l = padTo-bytes rate (m ++ (s ∷ [])) (append-bytes m (s ∷ []) p (h, tt)) in
     set-bytes l k (bitXor (getD l k 0) 0x80) q (xor-lt 8 (getD l k 0) 0x80 (getD-bytes l k q) (omega arith))

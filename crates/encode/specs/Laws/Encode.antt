@@ -8,7 +8,8 @@ use Rattle.encode.specs.Digits.{value}
 use Rattle.encode.specs.Padding.{shortfall, padTo}
 use Rattle.encode.specs.Encode.{bigEndian, lengthPrefixed, leftEncode, rightEncode, encodeString, bytepad}
 use Rattle.encode.specs.Laws.Digits.{value-width}
-use Rattle.encode.specs.Laws.Codes.{PrefixFree, SuffixFree, cut, lengthPrefixed-free, lengthSuffixed-free, lastSuffixed, lastSuffixed-of, through, after, followed}
+use Rattle.encode.specs.Laws.Codes.{PrefixFree, SuffixFree, cut, lengthPrefixed-free, lengthSuffixed-free, lastSuffixed, lastSuffixed-of}
+use Rattle.encode.specs.Laws.Codes.{through, after, followed}
 
 pub value-bigEndian : (n : ℕ) → value 256 (reverse (bigEndian n)) ≡ n
 unfolding bigEndian

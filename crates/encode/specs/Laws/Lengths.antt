@@ -1,17 +1,13 @@
--- Laws on lengths: of the encodings, of bytepad and of padded bytes, in blocks of 136.
+-- Laws on lengths: of the encodings, of bytepad and of padded bytes, in blocks.
 use mathlib.Core.Path.{_≡_, _∙_}
 use mathlib.Core.List.{List, _++_}
 use Prim.Native.Nat.{ℕ, _+_, _*_, _/_, _%_}
 use native.Mathlib.Omega.{arith}
 use lib.ListN.{length, length-append, length-replicate, length-set, length-reverse}
 use Rattle.encode.specs.Digits.{digits, widthIn, width}
-use Rattle.encode.specs.Padding.{padTo, withLastBit, padded}
+use Rattle.encode.specs.Padding.{rate, blocks, padTo, withLastBit, padded}
 use Rattle.encode.specs.Encode.{bigEndian, leftEncode, rightEncode, encodeString, bytepad}
 use Rattle.encode.specs.Laws.Digits.{length-digits}
-
--- blocks of 136 bytes, rounded up
-abbrev pub blocks : ℕ → ℕ
-blocks n = (n + 135) / 136
 
 pub length-bigEndian : (n : ℕ) → length (bigEndian n) ≡ width 256 n
 unfolding bigEndian
@@ -33,17 +29,17 @@ pub length-encodeString : (s : List ℕ) → length (encodeString s) ≡ stringL
 unfolding encodeString
 length-encodeString s = rw (length-append, length-leftEncode (8 * length s))
 
-pub length-padTo : (l : List ℕ) → length (padTo 136 l) ≡ blocks (length l) * 136
+pub length-padTo : (l : List ℕ) → length (padTo rate l) ≡ blocks (length l) * rate
 unfolding padTo
 length-padTo l = rw (length-append, length-replicate {A = ℕ}) (omega arith)
 
-pub length-bytepad : (x : List ℕ) → length (bytepad x 136) ≡ blocks (length x + 2) * 136
+pub length-bytepad : (x : List ℕ) → length (bytepad x rate) ≡ blocks (length x + 2) * rate
 unfolding bytepad leftEncode bigEndian widthIn
-length-bytepad x = length-padTo (leftEncode 136 ++ x) ∙ omega arith
+length-bytepad x = length-padTo (leftEncode rate ++ x) ∙ omega arith
 
-pub bytepad-blocks : (x : List ℕ) → length (bytepad x 136) % 136 ≡ 0
+pub bytepad-blocks : (x : List ℕ) → length (bytepad x rate) % rate ≡ 0
 bytepad-blocks x = rw length-bytepad (omega arith)
 
-pub length-padded : (s : ℕ) (m : List ℕ) → length (padded s m) ≡ (length m / 136 + 1) * 136
+pub length-padded : (s : ℕ) (m : List ℕ) → length (padded s m) ≡ (length m / rate + 1) * rate
 unfolding padded withLastBit
 length-padded s m = simp (length-set, length-padTo, length-append) (omega arith)

@@ -7,7 +7,7 @@ use native.Mathlib.Omega.{arith}
 use lib.Bits.{bitXor, xor-comm, xor-shifted}
 use lib.ListN.{length, getD, set, replicate, length-set, length-append, length-replicate, getD-replicate}
 use lib.Seq.{getD-set-same, set-set, set-getD, getD-append-add}
-use Rattle.encode.specs.Padding.{shortfall, padTo, withLastBit, padded, padding}
+use Rattle.encode.specs.Padding.{rate, shortfall, padTo, withLastBit, padded, padding}
 use Rattle.encode.specs.Laws.Codes.{cut-end}
 
 -- Where the padding stands
@@ -24,16 +24,16 @@ withLastBit-append a l h =
     rw (k, getD-append-add a l (length l - 1) 0) (set-append-right a l (length l - 1) _)
 
 -- the padded bytes are the message, and then the padding of what is free in its last block
-pub padded-split : (s : ℕ) (m : List ℕ) → padded s m ≡ m ++ padding s (136 - length m % 136)
+pub padded-split : (s : ℕ) (m : List ℕ) → padded s m ≡ m ++ padding s (rate - length m % rate)
 unfolding padded padTo padding
 padded-split s m =
-    let q : shortfall 136 (length (m ++ (s ∷ []))) ≡ 136 - length m % 136 - 1 = rw length-append (omega arith) in
-    rw (q, append-assoc) (withLastBit-append m (s ∷ replicate (136 - length m % 136 - 1) 0) (omega arith))
+    let q : shortfall rate (length (m ++ (s ∷ []))) ≡ rate - length m % rate - 1 = rw length-append (omega arith) in
+    rw (q, append-assoc) (withLastBit-append m (s ∷ replicate (rate - length m % rate - 1) 0) (omega arith))
 
 -- whole blocks before the message stay as they are
-pub padded-after : (s : ℕ) (a m : List ℕ) → length a % 136 ≡ 0 → padded s (a ++ m) ≡ a ++ padded s m
+pub padded-after : (s : ℕ) (a m : List ℕ) → length a % rate ≡ 0 → padded s (a ++ m) ≡ a ++ padded s m
 padded-after s a m h =
-    let q : 136 - length (a ++ m) % 136 ≡ 136 - length m % 136 = rw length-append (omega arith) in
+    let q : rate - length (a ++ m) % rate ≡ rate - length m % rate = rw length-append (omega arith) in
     padded-split s (a ++ m) ∙ rw (q, append-assoc, ← padded-split s m)
 
 -- the padding with its length written out
@@ -101,7 +101,7 @@ unpad m s q h =
 
 unpadded : (s : ℕ) (m : List ℕ) → suc s < 0x80 → withoutZeros (withoutLastBit (padded (suc s) m)) ≡ m ++ (suc s ∷ [])
 unfolding padded padTo
-unpadded s m h = rw append-assoc (unpad m s (shortfall 136 (length (m ++ (suc s ∷ [])))) h)
+unpadded s m h = rw append-assoc (unpad m s (shortfall rate (length (m ++ (suc s ∷ [])))) h)
 
 -- a suffix byte that is not 0 and leaves the top bit free, and the message, can be read off the padded bytes
 pub padded-fixes : (s t : ℕ) (m n : List ℕ) → suc s < 0x80 → suc t < 0x80 → padded (suc s) m ≡ padded (suc t) n → (s ≡ t) × (m ≡ n)

@@ -15,7 +15,8 @@ returns c =
     let put = c .before .before .absorb in
     let r : put .result % 136 ≡ put .result = mod-eq-of-lt (put .ensures .1) in
     rw (c .before .before .before .before .before .if1 .taken, facts .p2)
-    (c .finish .ensures ∙ ap (λ (u : Running). finished (c .before .before .before .before .before .before .args .suffix) u) (ap (running (put .last .0)) r ∙ put .ensures .0))
+    (c .finish .ensures
+    ∙ ap (λ (u : Running). finished (c .before .before .before .before .before .before .args .suffix) u) (ap (running (put .last .0)) r ∙ put .ensures .0))
 
 returns-2 : tie.Need-returns-2
 unfolding inputEnd absorbed

@@ -1,10 +1,14 @@
--- The two tests are that of `giving`: their sum exceeds the limit where one of them does. Past them the output comes from `givingSponge`.
-use mathlib.Core.Path.{ap, _∙_}
-use Prim.Native.Nat.{_+_, _<_, _≤_}
+-- The total's number is that of `giving`. Where it is 0 the output comes from `givingSponge`.
+-- A refusal hands back the session and leaves the output.
+use mathlib.Core.Path.{_≡_, sym, ap, _∙_}
+use mathlib.Core.Bool.{true}
+use Prim.Native.Nat.{ℕ, _+_, _^_, _<_, _≤_}
 use native.Mathlib.Omega.{arith}
 use borrow.Author.Needs.{needs}
-use borrow.Author.Tests.{lt-ltb, le-ltb}
+use borrow.Author.Tests.{le-ltb}
+use lib.Dec.{ltb}
 use lib.ListN.{length}
+use Rattle.answers.specs.Laws.{over-passed, over-refused}
 use Rattle.sponge.specs.Running.{Running, squeezed, after}
 use Rattle.session.specs.Session.{sessionAnswer, afterGiving, giving, filled}
 use Rattle.session.proofs.give.Statement.{statement}
@@ -13,27 +17,37 @@ use Rattle.session.proofs.give.Tie as tie
 returns : tie.Need-returns
 unfolding giving filled
 returns c =
+    let tested = c .before .before in
+    let a = tested .before .before .args in
+    let n = length (a .out .now) in
+    let long : ltb (a .s .limit) (a .s .given + n) ≡ true
+    = over-refused (a .s .given + n) (a .s .limit) 6 (λ z. c .before .if1 .taken (tested .over-total .ensures ∙ z)) in
+    (c .refuse .ensures ∙ ap (λ (k : ℕ). sessionAnswer k (a .s)) (tested .over-total .ensures) ∙ rw long, rw long)
+
+-- a total that is not refused keeps the limit
+within : (c : tie.Else1) → c .before .before .before .args .s .given + length (c .before .before .before .args .out .now) ≤ c .before .before .before .args .s .limit
+within c =
     let a = c .before .before .before .args in
-    let h : a .s .limit < a .s .given + length (a .out .now) = omega arith in
-    (c .refuse .ensures ∙ rw (lt-ltb _ _ h), rw (lt-ltb _ _ h))
+    over-passed (a .s .given + length (a .out .now)) (a .s .limit) 5 (sym (c .before .over-total .ensures) ∙ c .if1 .left)
+
+abbrev accepted : tie.After-slice-known2 → tie.Else1
+accepted c = c .before .before .before .before .before .before .before
+
+add-t16 : tie.Need-add-t16
+add-t16 c =
+    let h = within (accepted c) in
+    search needs
 
 returns-2 : tie.Need-returns-2
 unfolding giving filled
 returns-2 c =
-    let a = c .before .before .before .before .args in
-    let h : a .s .limit < a .s .given + length (a .out .now) = omega arith in
-    (c .refuse2 .ensures ∙ rw (lt-ltb _ _ h), rw (lt-ltb _ _ h))
-
-returns-3 : tie.Need-returns-3
-unfolding giving filled
-returns-3 c =
-    let a = c .before .before .before .before .before .before .before .before .before .before .args in
-    let h : a .s .given + length (a .out .now) ≤ a .s .limit = omega arith in
+    let a = accepted c .before .before .before .args in
     let n = length (a .out .now) in
-    let from = c .before .before .before .before .before .before .giving-sponge .ensures in
-    let out = c .before .before .squeeze .ensures in (
-      rw (le-ltb _ _ h) (ap (λ (u : Running). sessionAnswer 0 (afterGiving (a .s) n u)) (out .0 ∙ ap (after n) from)),
-      rw (le-ltb _ _ h) (out .1 ∙ ap (squeezed n) from),
+    let short = le-ltb (a .s .limit) (a .s .given + n) (within (accepted c)) in
+    let squeeze = c .before .before in
+    let from = squeeze .before .before .before .before .giving-sponge .ensures in (
+      rw short (ap (λ (u : Running). sessionAnswer 0 (afterGiving (a .s) n u)) (squeeze .squeeze .ensures .0 ∙ ap (after n) from)),
+      rw short (squeeze .squeeze .ensures .1 ∙ ap (squeezed n) from),
     )
 
 pub give-spec : {M : Type 1} → statement M
@@ -41,11 +55,10 @@ give-spec =
     tie.close
     (tie.spec
     (λ c κs. search needs)
+    (λ c κs. search needs)
     returns
     (λ c κs. search needs)
-    returns-2
     (λ c κs. search needs)
-    (λ c κs. search needs)
+    add-t16
     (λ c. search needs)
-    (λ c. search needs)
-    returns-3)
+    returns-2)

@@ -3,7 +3,7 @@ use mathlib.Core.Path.{_≡_, ap, _∙_}
 use mathlib.Core.List.{List}
 use Prim.Native.Nat.{ℕ}
 use borrow.Author.Needs.{needs}
-use Rattle.keccak.specs.Fips202.{keccakP}
+use Rattle.fips202.specs.Fips202.{keccakP}
 use Rattle.sponge.specs.Sponge.{xorByte}
 use Rattle.sponge.specs.Running.{running, finished}
 use Rattle.sponge.proofs.finish.Statement.{statement}

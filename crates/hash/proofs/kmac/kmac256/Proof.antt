@@ -43,7 +43,8 @@ returns c =
     let n =
     first .first-of .ensures
     ∙ ap₂ firstOf (number .first-refusal .ensures) (first .before .empty .ensures)
-    ∙ chain (started .result .number) (messageRefusal (length X)) (over (length before) maxOutput badOutputLength) (cond (eqb (length before) 0) badOutputLength done)
+    ∙ chain (started .result .number) (messageRefusal (length X)) (over (length before) maxOutput badOutputLength)
+    (cond (eqb (length before) 0) badOutputLength done)
     ∙ numbered (call s) (started .result) (started .ensures) in
     let is : refusal (call s) ≡ 0 → e ≡ rightEncode (8 * length before)
     = λ ok.

@@ -1,0 +1,10 @@
+-- The entry's own answer, handed on: its contract is this one, word for word.
+use borrow.Author.Needs.{needs}
+use Rattle.hailfeather.proofs.generators.hf_generator_seed.Statement.{statement}
+use Rattle.hailfeather.proofs.generators.hf_generator_seed.Tie as tie
+
+returns : tie.Need-returns
+returns c = c .seed .ensures
+
+pub hf-generator-seed-spec : {M : Type 1} → statement M
+hf-generator-seed-spec = tie.close (tie.spec (λ c κs. search needs) returns)

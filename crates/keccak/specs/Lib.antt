@@ -1,2 +1,0 @@
-pub mod Fips202
-pub mod Complemented
