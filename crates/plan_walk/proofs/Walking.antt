@@ -36,11 +36,15 @@ pub place-past : (p : Parsed) → placePast (numberAnswer p) ≡ placeAfter p
 place-past (value v next rest) = refl
 place-past (bad place) = refl
 
--- the start
+-- the start, by the summary of the plan
+abbrev startFor : List ℕ → PlanSummary → Cursor
+startFor s k = record { at = ifDone (k .number) (firstRow s) 0; number = k .number }
+
 module _ (s : List ℕ) (k : PlanSummary) (e : k ≡ summaryOf s) where
   pub start-refused : (k .number ≡ 0 → ⊥) → _≡_ {A = Cursor} (record { at = 0; number = k .number }) (walkStart s)
   unfolding walkStart
-  start-refused h = rw (← e, refused-old (k .number) (firstRow s) 0 h)
+  start-refused h =
+      ap (λ (at : ℕ). record { at = at; number = k .number }) (sym (refused-old (k .number) (firstRow s) 0 h)) ∙ ap (startFor s) e
 
   pub start-done : k .number ≡ 0 → (n : ℕ) → n ≡ firstRow s → _≡_ {A = Cursor} (record { at = n; number = 0 }) (walkStart s)
   unfolding walkStart
