@@ -1,5 +1,5 @@
 #!/usr/bin/env python3
-"""The cases of the program plan_cases and what it must write for them, worked out by the rules alone.
+"""The cases of the program plan_cases and what it must write for them, worked out by the rules of docs/RULES.md alone.
 
     python3 reference/plan_cases.py --input > crates/plan_cases/stdin    the cases, in the form that crates/plan_cases/src/main.rt says
     python3 reference/plan_cases.py         > crates/plan_cases/stdout   what they are answered with; stops if the cases there are not these

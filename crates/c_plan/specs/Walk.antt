@@ -1,4 +1,4 @@
--- The answer to an ask of a walk as C has it: the place after it is a number, and the plan's own number is in the cursor that C keeps.
+-- An ask's answer as C has it: of where the walk stands next the place alone, since its number is that of the cursor before.
 use Rattle.plan_walk.specs.declared.WalkAnswer.{WalkAnswer}
 use Rattle.c_plan.specs.declared.CWalk.{CWalk}
 

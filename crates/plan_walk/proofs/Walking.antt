@@ -36,15 +36,23 @@ pub place-past : (p : Parsed) → placePast (numberAnswer p) ≡ placeAfter p
 place-past (value v next rest) = refl
 place-past (bad place) = refl
 
--- the start
+-- the start, by the summary of the plan
+abbrev startFor : List ℕ → PlanSummary → Cursor
+startFor s k = record { at = ifDone (k .number) (firstRow s) 0; number = k .number }
+
 module _ (s : List ℕ) (k : PlanSummary) (e : k ≡ summaryOf s) where
   pub start-refused : (k .number ≡ 0 → ⊥) → _≡_ {A = Cursor} (record { at = 0; number = k .number }) (walkStart s)
   unfolding walkStart
-  start-refused h = rw (← e, refused-old (k .number) (firstRow s) 0 h)
+  start-refused h =
+      ap (λ (at : ℕ). record { at = at; number = k .number }) (sym (refused-old (k .number) (firstRow s) 0 h)) ∙ ap (startFor s) e
 
   pub start-done : k .number ≡ 0 → (n : ℕ) → n ≡ firstRow s → _≡_ {A = Cursor} (record { at = n; number = 0 }) (walkStart s)
   unfolding walkStart
   start-done z n q = rw (← e, z, q)
+
+pub start-number : (s : List ℕ) → walkStart s .number ≡ summaryOf s .number
+unfolding walkStart
+start-number s = refl
 
 -- an ask
 module _ (s : List ℕ) (c : Cursor) where
@@ -65,3 +73,13 @@ module _ (s : List ℕ) (c : Cursor) where
       go zero (Found row) h = absurd (h refl)
       go zero (NotRow place) h = refl
       go (suc n) r h = refl
+
+  -- and the number is the cursor's
+  pub step-number : walkStep s c .next .number ≡ c .number
+  unfolding walkStep
+  step-number = go (c .number) refl (rowAnswer (c .at) (planNumber (c .at) (drop (c .at) s)))
+    where
+      go : (n : ℕ) → c .number ≡ n → (r : RowRead) → ifDone n (asked c r) (stay (c .number) c) .next .number ≡ c .number
+      go zero e (Found row) = sym e
+      go zero e (NotRow place) = refl
+      go (suc n) e r = refl

@@ -23,7 +23,7 @@ use Rattle.plan_walk.specs.Walks.{walkerOf, afterAsks, answerLookup, wal
 use Rattle.plan_walk.specs.declared.Cursor.{Cursor}
 use Rattle.plan_walk.specs.declared.Walker.{Walker}
 use Rattle.plan_walk.specs.declared.WalkAnswer.{WalkAnswer}
-use Rattle.plan_walk.proofs.Walking.{refused-old, step-refused, step-stays}
+use Rattle.plan_walk.proofs.Walking.{refused-old, start-number, step-refused, step-stays, step-number}
 
 abbrev destinations : List Row → List ℕ
 destinations l = map (λ (r : Row). r .destination) l
@@ -144,6 +144,12 @@ module _ (plan : RefT (List ℕ)) where
   kept zero c = refl
   kept (suc k) c = kept k (walkStep s c .next)
 
+  -- and so is the number
+  kept-number : (k : ℕ) (c : Cursor) → afterAsks k (walkerAt plan c) .cursor .number ≡ c .number
+  unfolding afterAsks
+  kept-number zero c = refl
+  kept-number (suc k) c = kept-number k (walkStep s c .next) ∙ step-number s c
+
   -- by what the plan is, the asks from its start
   module _ (k : ℕ) where
     abbrev startFor : Plan → Cursor
@@ -178,5 +184,6 @@ walks plan k =
       destinations = asks-all plan k .1;
       stays = step-stays (now (w .plan)) (w .cursor);
       keeps = kept plan k (walkStart (now plan));
+      number = kept-number plan k (walkStart (now plan)) ∙ start-number (now plan);
       no-place = refused-place plan k;
     }

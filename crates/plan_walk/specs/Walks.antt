@@ -46,8 +46,9 @@ pub record Walks (plan : RefT (List ℕ)) (k : ℕ) : Type 0 where
   pub destinations : walkedOut k (walkerOf plan) ≡ take k (destinationsOf (planOf (now plan)))
   -- an ask that hands out nothing leaves the walker as it was
   pub stays : (asks (afterAsks k (walkerOf plan)) .number ≡ 0 → ⊥) → asks (afterAsks k (walkerOf plan)) .next ≡ afterAsks k (walkerOf plan) .cursor
-  -- the walker keeps the lent plan, and the place of a refused plan is 0
+  -- the walker keeps the lent plan and its number, and the place of a refused plan is 0
   pub keeps : afterAsks k (walkerOf plan) .plan ≡ plan
+  pub number : afterAsks k (walkerOf plan) .cursor .number ≡ summaryOf (now plan) .number
   pub no-place : (summaryOf (now plan) .number ≡ 0 → ⊥) → afterAsks k (walkerOf plan) .cursor .at ≡ 0
 
 abbrev pub WalksWhole : Type 0

@@ -1,5 +1,5 @@
 -- The entry's own answer, exported.
--- Exporting takes the cursor's fields one by one and no more, so the entry's equation carries over.
+-- Exporting leaves out the next cursor's number and no more, so the entry's equation carries over.
 use mathlib.Core.Path.{ap}
 use borrow.Author.Needs.{needs}
 use Rattle.c_plan.specs.Walk.{exportedAnswer}

@@ -24,7 +24,7 @@ limit-three = refl
 pub groups-last : (more v : ℕ) → v < 128 → writtenGroups more v ≡ v ∷ []
 unfolding writtenGroups
 groups-last zero v h = refl
-groups-last (suc more) v h = rw (lt-ltb _ _ h)
+groups-last (suc more) v h = ap (λ (t : Bool). cond t (v ∷ []) ((128 + v % 128) ∷ writtenGroups more (v / 128))) (lt-ltb v 128 h)
 
 -- one byte or more, and at most one for each group
 module _ where

@@ -1,10 +1,12 @@
 -- A long plan is refused before it is read. Else the plan hangs on its first number, by the definition's own cases: too many rows, the rows that
 -- `read_rows` reads, or no number.
 use mathlib.Core.Path.{_≡_, refl, sym, ap, _∙_}
+use Prim.Native.Nat.{_≤_, _<_}
 use native.Mathlib.Omega.{arith}
 use denote.Ref.{now}
 use borrow.Author.Tests.{le-leb, lt-leb}
 use Rattle.leb128.specs.declared.Number.the-variants.{Value, Bad}
+use Rattle.plan.specs.Limits.{maxRows}
 use Rattle.plan.specs.Plan.{planOf, planAnswer}
 use Rattle.plan.proofs.Rows.{rowsAfter, whole-long, whole-after}
 use borrow.Author.Needs.{needs}
@@ -42,7 +44,10 @@ malformed-requires : tie.Need-malformed-requires
 malformed-requires c κs = search needs
 
 returns-2 : tie.Need-returns-2
-returns-2 c = c .malformed .ensures ∙ (rw (lt-leb _ _ (c .before .if2 .taken))) ∙ known (c .before .before .before)
+returns-2 c =
+    let m = c .before .before .before in
+    let many : maxRows < m .value .given .0 .0 = omega (arith, c .before .if2 .taken) in
+    c .malformed .ensures ∙ (rw (lt-leb _ _ many)) ∙ known m
 
 read-rows-requires : tie.Need-read-rows-requires
 read-rows-requires c κs = search needs
@@ -54,7 +59,10 @@ malformed-requires-2 : tie.Need-malformed-requires-2
 malformed-requires-2 c κs = search needs
 
 returns-3 : tie.Need-returns-3
-returns-3 c = c .read-rows .ensures ∙ (rw (le-leb _ _ (c .before .if2 .left))) ∙ known (c .before .before .before)
+returns-3 c =
+    let m = c .before .before .before in
+    let few : m .value .given .0 .0 ≤ maxRows = omega (arith, c .before .if2 .left) in
+    c .read-rows .ensures ∙ (rw (le-leb _ _ few)) ∙ known m
 
 returns-4 : tie.Need-returns-4
 returns-4 c =
