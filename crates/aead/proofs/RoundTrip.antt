@@ -80,6 +80,10 @@ module _ (c : Construction) (h : Lawful c) (a : SealArguments) where
   abbrev sealedArguments : SealArguments
   sealedArguments = withText a ciphertext
 
+  -- the authentication key, for a text of k bytes
+  abbrev keyFor : ℕ → List ℕ
+  keyFor k = take authenticationKeyLength (c .keyStream (a .key) (a .iv) (authenticationKeyLength + k))
+
   length-stream : length (textStream c a) ≡ length (a .text)
   unfolding textStream
   length-stream =
@@ -105,14 +109,14 @@ module _ (c : Construction) (h : Lawful c) (a : SealArguments) where
     same-tag : tagOf c a ciphertext t ≡ tagOf c sealedArguments ciphertext (length (tagOf c a ciphertext t))
     unfolding tagOf authenticationKey
     same-tag =
-        ap (λ (k : ℕ). c .tag (take authenticationKeyLength (c .keyStream (a .key) (a .iv) (authenticationKeyLength + k))) ciphertext (a .label) t) (sym same-length)
+        ap (λ (k : ℕ). c .tag (keyFor k) ciphertext (a .label) t) (sym same-length)
         ∙ ap (tagOf c sealedArguments ciphertext) (sym tag-length)
 
     same-runs : sealRuns c sealedArguments ciphertext (length (tagOf c a ciphertext t)) ≡ sealRuns c a ciphertext t
     unfolding sealRuns authenticationKey
     same-runs =
         ap (sealRuns c sealedArguments ciphertext) tag-length
-        ∙ ap (λ (k : ℕ). c .streamRuns (a .key) (a .iv) (authenticationKeyLength + k) + c .tagRuns (take authenticationKeyLength (c .keyStream (a .key) (a .iv) (authenticationKeyLength + k))) ciphertext (a .label) t) same-length
+        ∙ ap (λ (k : ℕ). c .streamRuns (a .key) (a .iv) (authenticationKeyLength + k) + c .tagRuns (keyFor k) ciphertext (a .label) t) same-length
 
     pub opens-again : (n m : ℕ) → sealRefusal c a n t ≡ 0 → m ≡ n → openRefusal c sealedArguments m (tagOf c a ciphertext t) ≡ 0
     opens-again n m e same =

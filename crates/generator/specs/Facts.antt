@@ -32,7 +32,8 @@ pub record GeneratorFacts : Type 0 where
   pub noSeedCount : seedAnswer cshakeDrng freshGenerator [] (replicate 85 0) .runs ≡ 0
 
 pub generatorFacts : GeneratorFacts
-unfolding drawRefusal drawRuns pieceCount seedAnswer seedLengthsRefusal runs fed fedBytes padded withLastBit padTo bytepad encodeString leftEncode bigEndian widthIn
+unfolding drawRefusal drawRuns pieceCount seedAnswer seedLengthsRefusal runs fed fedBytes padded withLastBit padTo bytepad encodeString leftEncode
+    bigEndian widthIn
 generatorFacts =
     record {
       unseeded = refl;

@@ -1,5 +1,5 @@
-// Runs the cSHAKE generator over the counts and limits of docs/RULES.md and over a long draw, and prints number, count, state and output of each step. The expected
-// output is that of reference/generator_cases.py.
+// Runs the cSHAKE generator over the counts and limits of docs/RULES.md and over a long draw, and prints number, count, state and output of each step.
+// The expected output is that of reference/generator_cases.py.
 ghost use mathlib.Core.Path.{_≡_};
 ghost use Prim.Native.Nat.{_≤_};
 ghost use lib.ListN.{length};

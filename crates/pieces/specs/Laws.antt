@@ -102,7 +102,8 @@ module _ (generate : List ℕ → Generated) (sized : (key : List ℕ) → lengt
       length-append (generate key .stream) (streamOf generate m (generate key .key)) ∙ omega (arith, sized key, length-streamOf m (generate key .key))
 
   -- the next piece, then the rest of the request
-  pub drawn-piece : (n : ℕ) (key : List ℕ) → 0 < n → drawn generate n key ≡ before (take (cut n) (generate key .stream)) (drawn generate (n - cut n) (generate key .key))
+  pub drawn-piece : (n : ℕ) (key : List ℕ) → 0 < n → drawn generate n key
+      ≡ before (take (cut n) (generate key .stream)) (drawn generate (n - cut n) (generate key .key))
   unfolding drawn keyAfter streamOf
   drawn-piece n key h =
       rw (pieceCount-more n h)
@@ -112,7 +113,8 @@ module _ (generate : List ℕ → Generated) (sized : (key : List ℕ) → lengt
       })
 
   -- a turn of the loop that fills `out`: i bytes are done, and the piece's c bytes are put in after them
-  pub drawn-turn : (out part rest key next : List ℕ) (i n c : ℕ) → i < n → i ≤ length out → c ≡ cut (n - i) → part ≡ take c (generate key .stream) → next ≡ generate key .key
+  pub drawn-turn : (out part rest key next : List ℕ) (i n c : ℕ) → i < n → i ≤ length out → c ≡ cut (n - i)
+      → part ≡ take c (generate key .stream) → next ≡ generate key .key
       → before (take (i + c) (take i out ++ (part ++ rest))) (drawn generate (n - (i + c)) next) ≡ before (take i out) (drawn generate (n - i) key)
   drawn-turn out part rest key next i n c more fits is given moved =
       let d : Generated = drawn generate (n - i - cut (n - i)) (generate key .key) in

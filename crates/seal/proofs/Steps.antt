@@ -1,4 +1,4 @@
--- From what the private parts leave to what sealing and opening answer: stream, ciphertext, tag and count are the definition's, step by step.
+-- From what the two calls leave to what sealing and opening answer: stream, ciphertext, tag and count are the definition's, step by step.
 use mathlib.Core.Path.{_≡_, refl, sym, ap, ap₂, _∙_}
 use mathlib.Core.Bool.{Bool, true}
 use mathlib.Core.List.{List}
@@ -13,10 +13,10 @@ use Rattle.aead.specs.Limits.{authenticationKeyLength, leastTag, longestTag}
 use Rattle.aead.specs.Aead.{SealArguments, combined, authenticationKey, textStream, combinedText, tagOf, sealRuns}
 use Rattle.aead.specs.Refusals.{sealRefusal, openLengthsRefusal}
 use Rattle.aead.proofs.Answers.{answer, Seals, OpensInto, seal-accepted, open-accepted}
-use Rattle.seal.specs.declared.parts.Stream.{Stream}
+use Rattle.seal_calls.specs.declared.Stream.{Stream}
 use Rattle.seal.specs.Kmac.{tagCall, kmacAead}
-use Rattle.seal.specs.Private.{Streams, Tags}
 use Rattle.seal.proofs.Lawful.{kmac-lawful}
+use Rattle.seal.proofs.StreamAndTag.{Streams, Tags}
 
 -- a tag of 64 bytes takes no more permutations than a shorter one
 runs-cut : (k x l : List ℕ) (t : ℕ) → leastTag ≤ t → t ≤ longestTag → runs (tagCall k x l longestTag) ≡ runs (tagCall k x l t)

@@ -1,4 +1,3 @@
--- The construction; what is asked of it; what the private parts do.
+-- The construction; then what is asked of it.
 pub mod Kmac
 pub mod RoundTrip
-pub mod Private

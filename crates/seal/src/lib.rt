@@ -10,11 +10,9 @@ use aead::same_beginning;
 use answers::DONE;
 use answers::Outcome;
 use answers::TAG_MISMATCH;
-use parts::begin_stream;
-use parts::combine_stream;
-use parts::make_tag;
-
-mod parts;
+use seal_calls::begin_stream;
+use seal_calls::combine_stream;
+use seal_calls::make_tag;
 
 // The shortest tags that sealing makes and that opening takes, as specs/Kmac.antt has them.
 const LEAST_SEALED: usize = LEAST_TAG;

@@ -30,7 +30,8 @@ returns c =
     (c .refuse .ensures ∙ r .answer, r .output)
 
 accepted : (c : tie.Else1)
-    → drawRefusal (entry (c .before) .args .generator .seeded) (length (entry (c .before) .args .additional .now)) (length (entry (c .before) .args .out .now)) ≡ 0
+    → drawRefusal (entry (c .before) .args .generator .seeded) (length (entry (c .before) .args .additional .now))
+    (length (entry (c .before) .args .out .now)) ≡ 0
 accepted c = sym (c .before .draw-refusal .ensures) ∙ c .if1 .left
 
 draw-pieces-requires : tie.Need-draw-pieces-requires

@@ -83,8 +83,8 @@ loop-again c =
       end,
       refl,
       same-len-mid (k .i) (k .i + next .result - k .i) (k .out) (piece .last .1 .1 .0) long ∙ k .inv .2,
-      drawn-turn (generate additional) (piece-sized additional) (k .out) (piece .last .1 .1 .0) (postOf (k .i) (k .i + next .result - k .i) (k .out)) (k .key) (piece .result)
-          (k .i) n (next .result) (omega arith) (omega arith) (next .ensures) given (piece .ensures .0)
+      drawn-turn (generate additional) (piece-sized additional) (k .out) (piece .last .1 .1 .0) (postOf (k .i) (k .i + next .result - k .i) (k .out))
+          (k .key) (piece .result) (k .i) n (next .result) (omega arith) (omega arith) (next .ensures) given (piece .ensures .0)
           ∙ k .inv .3,
     )
 

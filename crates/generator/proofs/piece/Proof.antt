@@ -42,9 +42,12 @@ returns c =
     let message = messaging c .absorb-message in
     let n = length (s .args .out .now) in
     let ok = piece-start key (omega (arith, key-length (starting c .before))) in
-    let given = message-output (pieceCall additional key) (start .result) (start .ensures) ok _ (message .last .0) (message .result) (piece-message additional) (message .ensures) (keyBytes + pieceBytes) in (
-      keying c .squeeze .ensures .1 ∙ piece-key additional key (running (message .last .0) 0) given,
-      streaming c .squeeze2 .ensures .1 ∙ ap (squeezed n) (keying c .squeeze .ensures .0) ∙ piece-stream additional key (running (message .last .0) 0) given n (s .pre .1),
+    let b = running (message .last .0) 0 in
+    let given =
+    message-output (pieceCall additional key) (start .result) (start .ensures) ok _ (message .last .0) (message .result) (piece-message additional)
+    (message .ensures) (keyBytes + pieceBytes) in (
+      keying c .squeeze .ensures .1 ∙ piece-key additional key b given,
+      streaming c .squeeze2 .ensures .1 ∙ ap (squeezed n) (keying c .squeeze .ensures .0) ∙ piece-stream additional key b given n (s .pre .1),
     )
 
 pub piece-spec : {M : Type 1} → statement M

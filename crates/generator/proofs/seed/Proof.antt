@@ -35,7 +35,8 @@ returns-2 c =
     let a = entry (past .before) .args in
     let new = made .new-key in
     c .accept .ensures
-    ∙ seed-accepted cshakeDrng (a .generator) (a .seed .now) (a .personalisation .now) (new .result .runs) (new .result .key) (accepted past) (new .ensures .runs) (new .ensures .key)
+    ∙ seed-accepted cshakeDrng (a .generator) (a .seed .now) (a .personalisation .now) (new .result .runs) (new .result .key)
+    (accepted past) (new .ensures .runs) (new .ensures .key)
 
 pub seed-spec : {M : Type 1} → statement M
 seed-spec = tie.close (tie.spec (λ c κs. tt) (λ c κs. tt) returns new-key-requires (λ c κs. tt) returns-2)

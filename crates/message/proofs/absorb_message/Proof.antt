@@ -23,11 +23,15 @@ returns c =
     let x = a .first .now in
     let y = a .second .now in
     let z = a .last .now in
-    let two = then-piece from (first .last .0) (second .last .0) x (first .result) (first .ensures .0) (first .ensures .1) y (second .result) (second .ensures .0) in
+    let two =
+    then-piece from (first .last .0) (second .last .0) x (first .result) (first .ensures .0) (first .ensures .1) y (second .result)
+    (second .ensures .0) in
     let three = then-piece from (second .last .0) (third .last .0) (x ++ y) (second .result) two (second .ensures .1) z (third .result) (third .ensures .0) in
     let long : length ((x ++ y) ++ z) ≡ length x + length y + length z = simp length-append in
     record {
-      lanes = then-finish from (third .last .0) (after-finish .finish .last .0) ((x ++ y) ++ z) (third .result) three (third .ensures .1) (a .suffix) (after-finish .finish .ensures);
+      lanes =
+          then-finish from (third .last .0) (after-finish .finish .last .0) ((x ++ y) ++ z) (third .result) three (third .ensures .1) (a .suffix)
+          (after-finish .finish .ensures);
       blocks = omega (arith, c .block-count .ensures, long);
     }
 

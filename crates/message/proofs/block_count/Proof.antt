@@ -7,4 +7,5 @@ returns : tie.Need-returns
 returns c = omega arith
 
 pub block-count-spec : {M : Type 1} → statement M
-block-count-spec = tie.close (tie.spec (λ c. omega arith) (λ c. omega arith) (λ c. omega arith) (λ c. omega arith) (λ c. omega arith) (λ c. omega arith) returns)
+block-count-spec = tie.close
+    (tie.spec (λ c. omega arith) (λ c. omega arith) (λ c. omega arith) (λ c. omega arith) (λ c. omega arith) (λ c. omega arith) returns)

@@ -6,13 +6,13 @@ use native.Mathlib.Omega.{arith}
 use borrow.Author.Needs.{needs}
 use lib.ListN.{length}
 use Rattle.calls.specs.Start.{sameBytes}
-use Rattle.aead.specs.Limits.{leastTag}
+use Rattle.aead.specs.Limits.{leastTag, longestTag}
 use Rattle.aead.specs.Aead.{SealArguments, sealArguments, tagOf}
 use Rattle.aead.proofs.Refusals.{WithinLimits, lengths-accepted}
 use Rattle.aead.specs.Refusals.{openLengthsRefusal}
 use Rattle.aead.proofs.Answers.{answer, OpensInto, open-refused, open-mismatch}
 use Rattle.seal.specs.Kmac.{kmacAead}
-use Rattle.seal.proofs.StreamAndTag.{counts-fit}
+use Rattle.seal.proofs.StreamAndTag.{Streams, Tags, streams, tags, counts-fit}
 use Rattle.seal.proofs.Steps.{compares, opens}
 use Rattle.seal.proofs.open.Statement.{statement}
 use Rattle.seal.proofs.open.Tie as tie
@@ -49,7 +49,9 @@ within : (c : tie.Else1) → Within (entry (c .before))
 within c = lengths-accepted _ _ _ _ _ _ _ (sym (c .before .lengths-refusal .ensures) ∙ c .if1 .left)
 
 -- no number is given for them
-accepted : (c : tie.Else1) → 0 ≡ openLengthsRefusal kmacAead (arguments (entry (c .before))) (length (entry (c .before) .args .out .now)) (length (entry (c .before) .args .tag .now))
+accepted : (c : tie.Else1)
+    → 0 ≡ openLengthsRefusal kmacAead (arguments (entry (c .before))) (length (entry (c .before) .args .out .now))
+    (length (entry (c .before) .args .tag .now))
 accepted c = sym (c .if1 .left) ∙ c .before .lengths-refusal .ensures
 
 returns : tie.Need-returns
@@ -59,16 +61,22 @@ returns c =
     let r = open-refused kmacAead (arguments s) (s .args .out .now) (s .args .tag .now) (number .result) (number .ensures) (c .if1 .taken) in
     (r .outcome, r .text)
 
-begin-stream-requires : tie.Need-begin-stream-requires
-begin-stream-requires c κs =
-    let w = within c in
-    (omega (arith, w .key), w .iv, omega (arith, w .input))
+-- the stream and the tag are the construction's
+stream-is : (f : tie.After-begin-stream)
+    → Streams (entry (f .before .before) .args .key .now) (entry (f .before .before) .args .iv .now)
+    (length (entry (f .before .before) .args .ciphertext .now)) (f .begin-stream .result)
+stream-is f =
+    let w = within (f .before) in
+    streams _ _ _ _ (f .begin-stream .ensures) (omega (arith, w .key)) (w .iv) (omega (arith, w .input))
 
 key-length : tie.Need-slice-aggregate-make-tag
 key-length c = search needs
 
-make-tag-requires : tie.Need-make-tag-requires
-make-tag-requires c κs = (omega (arith, key-length (c .before)), within (c .before .before .before .before) .input, omega arith)
+tag-is : (m : tie.After-make-tag)
+    → Tags (streaming m .begin-stream .result .authentication) (entry (streaming m .before .before) .args .ciphertext .now)
+    (entry (streaming m .before .before) .args .label .now) (m .make-tag .last .1 .1 .1 .0) longestTag (m .make-tag .result)
+tag-is m =
+    tags _ _ _ _ _ _ (m .make-tag .ensures) (omega (arith, key-length (m .before .before))) (within (streaming m .before) .input) (omega arith)
 
 abbrev SameIs : Bool → tie.Start → Type 0
 SameIs b s = b ≡ sameBytes (s .args .tag .now) (tagOf kmacAead (arguments s) (s .args .ciphertext .now) (length (s .args .tag .now)))
@@ -76,8 +84,8 @@ SameIs b s = b ≡ sameBytes (s .args .tag .now) (tagOf kmacAead (arguments s) (
 -- the comparison is the definition's
 same-is : (c : tie.After-same-beginning) → SameIs (c .same-beginning .result) (start c)
 same-is c =
-    compares (arguments (start c)) (streaming (tagging c) .begin-stream .result) (streaming (tagging c) .begin-stream .ensures) (start c .args .tag .now)
-    (tagging c .make-tag .last .1 .1 .1 .0) (tagging c .make-tag .result) (tagging c .make-tag .ensures) (within (streaming (tagging c) .before) .longTag)
+    compares (arguments (start c)) (streaming (tagging c) .begin-stream .result) (stream-is (streaming (tagging c))) (start c .args .tag .now)
+    (tagging c .make-tag .last .1 .1 .1 .0) (tagging c .make-tag .result) (tag-is (tagging c)) (within (streaming (tagging c) .before) .longTag)
     (c .same-beginning .result) (c .same-beginning .ensures)
 
 matches : (c : tie.Then2) → SameIs true (start (c .before))
@@ -88,14 +96,15 @@ differs c = sym (c .if2 .left) ∙ same-is (c .before)
 
 opens-into : (c : tie.After-combine-stream)
     → OpensInto kmacAead (arguments (start (same c .before))) (start (same c .before) .args .out .now) (start (same c .before) .args .tag .now)
-    (answer 0 (streaming (tagging (same c .before)) .begin-stream .result .runs + tagging (same c .before) .make-tag .result)) (c .combine-stream .last .1 .1 .0)
+    (answer 0 (streaming (tagging (same c .before)) .begin-stream .result .runs + tagging (same c .before) .make-tag .result))
+    (c .combine-stream .last .1 .1 .0)
 opens-into c =
     let compared = same c .before in
     let made = tagging compared in
     let f = streaming made in
-    opens (arguments (start compared)) (f .begin-stream .result) (f .begin-stream .ensures) (start compared .args .tag .now) (made .make-tag .last .1 .1 .1 .0)
-    (made .make-tag .result) (made .make-tag .ensures) (within (f .before) .longTag) (start compared .args .out .now) (c .combine-stream .last .1 .1 .0)
-    (accepted (f .before)) (within (f .before) .output) (within (f .before) .leastTag) (c .combine-stream .ensures) (matches (same c))
+    opens (arguments (start compared)) (f .begin-stream .result) (stream-is f) (start compared .args .tag .now) (made .make-tag .last .1 .1 .1 .0)
+    (made .make-tag .result) (tag-is made) (within (f .before) .longTag) (start compared .args .out .now) (c .combine-stream .last .1 .1 .0)
+    (accepted (f .before)) (within (f .before) .output) (within (f .before) .leastTag) (c .combine-stream .ensures .0) (matches (same c))
 
 returns-2 : tie.Need-returns-2
 returns-2 c = (opens-into (combining c) .outcome, opens-into (combining c) .text)
@@ -112,14 +121,14 @@ open-spec =
     (tie.spec
     (λ c κs. tt)
     returns
-    begin-stream-requires
+    (λ c κs. tt)
     key-length
     (λ c. refl)
-    make-tag-requires
+    (λ c κs. tt)
     (λ c. search needs)
     (λ c κs. tt)
     (λ c κs. tt)
-    (λ c. counts-fit _ _ (streaming (tagging (same (combining c) .before)) .begin-stream .ensures .bounded) (tagging (same (combining c) .before) .make-tag .ensures .bounded))
+    (λ c. counts-fit _ _ (stream-is (streaming (tagging (same (combining c) .before))) .bounded) (tag-is (tagging (same (combining c) .before)) .bounded))
     (λ c. search needs)
     returns-2
     returns-3)

@@ -10,7 +10,7 @@ use Rattle.aead.proofs.Refusals.{WithinLimits, lengths-accepted}
 use Rattle.aead.specs.Refusals.{sealRefusal}
 use Rattle.aead.proofs.Answers.{answer, Seals, seal-refused}
 use Rattle.seal.specs.Kmac.{kmacAead}
-use Rattle.seal.proofs.StreamAndTag.{counts-fit}
+use Rattle.seal.proofs.StreamAndTag.{Streams, Tags, streams, tags, counts-fit}
 use Rattle.seal.proofs.Steps.{seals}
 use Rattle.seal.proofs.seal.Statement.{statement}
 use Rattle.seal.proofs.seal.Tie as tie
@@ -44,7 +44,9 @@ within : (c : tie.Else1) → Within (entry (c .before))
 within c = lengths-accepted _ _ _ _ _ _ _ (sym (c .before .lengths-refusal .ensures) ∙ c .if1 .left)
 
 -- no number is given for them
-accepted : (c : tie.Else1) → 0 ≡ sealRefusal kmacAead (arguments (entry (c .before))) (length (entry (c .before) .args .out .now)) (length (entry (c .before) .args .tag .now))
+accepted : (c : tie.Else1)
+    → 0 ≡ sealRefusal kmacAead (arguments (entry (c .before))) (length (entry (c .before) .args .out .now))
+    (length (entry (c .before) .args .tag .now))
 accepted c = sym (c .if1 .left) ∙ c .before .lengths-refusal .ensures
 
 returns : tie.Need-returns
@@ -54,19 +56,25 @@ returns c =
     let r = seal-refused kmacAead (arguments s) (s .args .out .now) (s .args .tag .now) (number .result) (number .ensures) (c .if1 .taken) in
     (r .outcome, r .text, r .handed)
 
-begin-stream-requires : tie.Need-begin-stream-requires
-begin-stream-requires c κs =
-    let w = within c in
-    (omega (arith, w .key), w .iv, omega (arith, w .input))
+-- the stream and the tag are the construction's
+stream-is : (f : tie.After-begin-stream)
+    → Streams (entry (f .before .before) .args .key .now) (entry (f .before .before) .args .iv .now)
+    (length (entry (f .before .before) .args .text .now)) (f .begin-stream .result)
+stream-is f =
+    let w = within (f .before) in
+    streams _ _ _ _ (f .begin-stream .ensures) (omega (arith, w .key)) (w .iv) (omega (arith, w .input))
 
 key-length : tie.Need-slice-aggregate-make-tag
 key-length c = search needs
 
-make-tag-requires : tie.Need-make-tag-requires
-make-tag-requires c κs =
-    let b = combining c in
+tag-is : (m : tie.After-make-tag)
+    → Tags (streaming (combining (m .before)) .begin-stream .result .authentication) (combining (m .before) .combine-stream .last .1 .1 .0)
+    (start m .args .label .now) (m .make-tag .last .1 .1 .1 .0) (length (start m .args .tag .now)) (m .make-tag .result)
+tag-is m =
+    let b = combining (m .before) in
     let w = within (streaming b .before) in
-    (omega (arith, key-length (c .before .before)), omega (arith, b .combine-stream .kept .1 .1 .0, w .input, w .output), w .longTag)
+    tags _ _ _ _ _ _ (m .make-tag .ensures) (omega (arith, key-length (m .before .before .before)))
+    (omega (arith, b .combine-stream .kept .1 .1 .0, w .input, w .output)) (w .longTag)
 
 seals-into : (m : tie.After-make-tag)
     → Seals kmacAead (arguments (start m)) (start m .args .out .now) (start m .args .tag .now)
@@ -75,9 +83,9 @@ seals-into : (m : tie.After-make-tag)
 seals-into m =
     let b = combining (m .before) in
     let f = streaming b in
-    seals (arguments (start m)) (f .begin-stream .result) (f .begin-stream .ensures) (start m .args .out .now) (start m .args .tag .now)
+    seals (arguments (start m)) (f .begin-stream .result) (stream-is f) (start m .args .out .now) (start m .args .tag .now)
     (b .combine-stream .last .1 .1 .0) (m .make-tag .last .1 .1 .1 .0) (m .make-tag .result) (accepted (f .before)) (within (f .before) .output)
-    (b .combine-stream .ensures) (m .make-tag .ensures)
+    (b .combine-stream .ensures .0) (tag-is m)
 
 returns-2 : tie.Need-returns-2
 returns-2 c = (seals-into (tagging c) .outcome, seals-into (tagging c) .text, seals-into (tagging c) .handed)
@@ -88,11 +96,11 @@ seal-spec =
     (tie.spec
     (λ c κs. tt)
     returns
-    begin-stream-requires
+    (λ c κs. tt)
     (λ c κs. tt)
     key-length
-    make-tag-requires
-    (λ c. counts-fit _ _ (streaming (combining (tagging c .before)) .begin-stream .ensures .bounded) (tagging c .make-tag .ensures .bounded))
+    (λ c κs. tt)
+    (λ c. counts-fit _ _ (stream-is (streaming (combining (tagging c .before))) .bounded) (tag-is (tagging c) .bounded))
     (λ c. search needs)
     (λ c. search needs)
     returns-2)

@@ -1,17 +1,22 @@
-// The parts that sealing and opening share: the key stream, the combining of the text with it, and the tag.
+// The two calls of KMACXOF256 that a seal of the KMAC AEAD is made of (KMAC AEAD, 1.2.2 and 1.2.3), as the sponge runs them. Their contracts hold for strings
+// of every length: what is refused is decided above.
 ghost use mathlib.Core.Path.{_≡_};
-ghost use Prim.Native.Nat.{_+_, _≤_};
+ghost use mathlib.Core.List.{_++_};
+ghost use Prim.Native.Nat.{_+_};
 ghost use lib.ListN.{length};
-ghost use Rattle.calls.specs.Limits.{maxKey, maxCustomisation, maxMessage};
-ghost use Rattle.sponge.specs.Running.{running, squeezed};
-ghost use Rattle.aead.specs.Limits.{authenticationKeyLength, longestTag};
+ghost use Rattle.calls.specs.Count.{outputRuns};
+ghost use Rattle.sponge.specs.Running.{running, squeezed, after};
+ghost use Rattle.aead.specs.Limits.{authenticationKeyLength};
 ghost use Rattle.aead.specs.Aead.{combined};
-ghost use Rattle.seal.specs.Private.{Streams, Tags};
+ghost use Rattle.seal_calls.specs.SealCalls.{Begins, TagMade};
 use calls::output_runs;
 use message::absorb_message;
 use sponge::squeeze;
 
 pub const AUTHENTICATION_KEY_LENGTH: usize = 32;
+
+// Bytes in a block.
+const RATE: usize = 136;
 
 // A key stream of which the authentication key has been squeezed.
 pub struct Stream {
@@ -21,10 +26,16 @@ pub struct Stream {
     pub runs: usize,
 }
 
+// The share in the permutations that the authentication key and n bytes more have, with no sum that could wrap.
+fn stream_share(n: usize) -> usize
+    ensures { λ r. ⌜ r ≡ outputRuns (authenticationKeyLength + n) ⌝ }
+{
+    n / RATE + (n % RATE + AUTHENTICATION_KEY_LENGTH - 1) / RATE
+}
+
 // The key stream for a text of n bytes.
 pub fn begin_stream(key: &[u8], iv: &[u8], n: usize) -> Stream
-    requires { ⌜ (length (now key) ≤ maxKey) × (length (now iv) ≤ maxCustomisation) × (n ≤ maxMessage) ⌝ }
-    ensures { λ r. ⌜ Streams (now (key .entry)) (now (iv .entry)) n r ⌝ }
+    ensures { λ r. ⌜ Begins (now (key .entry)) (now (iv .entry)) n r ⌝ }
 {
     let start = start::start_keyed(key, iv);
     let mut lanes = start.lanes;
@@ -35,13 +46,15 @@ pub fn begin_stream(key: &[u8], iv: &[u8], n: usize) -> Stream
     Stream {
         authentication,
         lanes,
-        runs: start.blocks + blocks + output_runs(AUTHENTICATION_KEY_LENGTH + n),
+        runs: start.blocks + blocks + stream_share(n),
     }
 }
 
 // The rest of the stream, squeezed into `out` and combined with the text there.
 pub fn combine_stream(lanes: &mut [u64; 25], text: &[u8], out: &mut [u8])
-    ensures { λ r. ⌜ now (out .exit) ≡ combined (now (text .entry)) (squeezed (length (now (out .entry))) (running (now (lanes .entry)) authenticationKeyLength)) ⌝ }
+    ensures { λ r. ⌜ (now (out .exit)
+        ≡ combined (now (text .entry)) (squeezed (length (now (out .entry))) (running (now (lanes .entry)) authenticationKeyLength)))
+        × (now (lanes .exit) ≡ after (length (now (out .entry))) (running (now (lanes .entry)) authenticationKeyLength) .lanes) ⌝ }
 {
     squeeze(lanes, AUTHENTICATION_KEY_LENGTH, out);
     aead::combine(text, out);
@@ -49,8 +62,7 @@ pub fn combine_stream(lanes: &mut [u64; 25], text: &[u8], out: &mut [u8])
 
 // The tag over a ciphertext and a label; its permutations.
 pub fn make_tag(authentication: &[u8], ciphertext: &[u8], label: &[u8], tag: &mut [u8]) -> usize
-    requires { ⌜ (length (now authentication) ≤ maxKey) × (length (now ciphertext) + length (now label) ≤ maxMessage) × (length (now tag) ≤ longestTag) ⌝ }
-    ensures { λ r. ⌜ Tags (now (authentication .entry)) (now (ciphertext .entry)) (now (label .entry)) (now (tag .exit)) (length (now (tag .entry))) r ⌝ }
+    ensures { λ r. ⌜ TagMade (now (authentication .entry)) (now (ciphertext .entry)) (now (label .entry)) (now (tag .exit)) (length (now (tag .entry))) r ⌝ }
 {
     let n = tag.len();
     let start = start::start_keyed(authentication, b"");
