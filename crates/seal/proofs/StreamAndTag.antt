@@ -57,7 +57,7 @@ ended n = refl
 
 module _ (K S x : List ℕ) (ok : startRefusal (keyed K S) ≡ 0) (few : started (keyed K S) .blocks ≤ 128) where
   own : Starts (keyed K S) (started (keyed K S))
-  own = record { is = refl; few = few }
+  own = record { is = refl; bounded = few }
 
   xof-output : (n : ℕ) → squeezed n (xofRunning K S x) ≡ sponge (fed (kmacxof256 K x n S)) n
   unfolding xofRunning
