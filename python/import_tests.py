@@ -75,7 +75,7 @@ class Imports(unittest.TestCase):
         self.fails(self.started([], HAILFEATHER_LIBRARY=text), f"{text} is not a shared object", "set HAILFEATHER_LIBRARY to")
         other = self.root / "other.so"
         subprocess.run(["cc", "-shared", "-x", "c", "-o", str(other), "-"], input=b"int other;\n", check=True)
-        self.fails(self.started([], HAILFEATHER_LIBRARY=other), f"{other} has no function hf_keccak_p", "set HAILFEATHER_LIBRARY to")
+        self.fails(self.started([], HAILFEATHER_LIBRARY=other), f"{other} has no function hf_version", "set HAILFEATHER_LIBRARY to")
 
     def test_archive(self) -> None:
         self.fails(self.started(SCRIPT_TOOLS, HAILFEATHER_ARCHIVE="/nowhere.a"), "HAILFEATHER_ARCHIVE names /nowhere.a, which is not there", "or set")
