@@ -8,6 +8,7 @@ use denote.Ref.{now}
 use lib.ListN.{length, getD, drop}
 use Rattle.leb128.specs.Number.{maxNumber}
 use Rattle.leb128.specs.Written.{writtenNumber}
+use Rattle.leb128.specs.Answers.{numberLength}
 use Rattle.leb128.specs.Laws.Writing.{groups-count, length-is, length-known, length-none}
 use Rattle.plan_write.specs.Write.{lengthOf}
 use Rattle.plan_write.proofs.Rows.{lengthFrom, length-start, length-many, length-more, length-large, length-end}
@@ -60,7 +61,7 @@ loop-holds c =
     let l = now (rows-of (c .before) .args .rows) in
     let few : length l ≤ 4096 = omega (arith, c .before .if1 .left) in
     let k : length l % 4294967296 ≡ length l = omega arith in
-    let e : c .number-length .result ≡ length (writtenNumber (length l)) = (rw k at (c .number-length .ensures)) ∙ length-is (length l) (omega arith) in
+    let e : c .number-length .result ≡ length (writtenNumber (length l)) = c .number-length .ensures ∙ ap numberLength k ∙ length-is (length l) (omega arith) in
     (omega arith, (omega (arith, e, groups-count 2 (length l)), rw e (length-start l few)))
 
 mul-number-length : tie.Need-mul-number-length Inv-loop μ-loop
@@ -103,7 +104,8 @@ loop-again c =
       omega (arith, t .loop-test .taken),
       (
         omega (arith, k, l .inv .1 .0),
-        rw (k .1 .0) (sym (length-more (l .i) rows (t .loop-test .taken) (l .length) (k .0)) ∙ l .inv .1 .1),
+        ap (λ (m : ℕ). lengthFrom (l .length + m) (drop (l .i + 1) rows)) (k .1 .0)
+            ∙ sym (length-more (l .i) rows (t .loop-test .taken) (l .length) (k .0)) ∙ l .inv .1 .1,
       ),
     )
 

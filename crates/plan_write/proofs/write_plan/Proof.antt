@@ -100,7 +100,7 @@ returns-3 c =
     let n = count-written w in
     all-written (now (a .rows)) (p .plan-length .result) (p .plan-length .ensures) (e .if1 .left) (now (a .out)) _ _
     (omega (arith, counted w .if2 .left)) (n .stores)
-    (rw (n .place) at (r .put-rows .ensures))
+    (r .put-rows .ensures ∙ ap (λ (m : ℕ). sets (w .write-number .last .0) m (writtenRows (now (a .rows)))) (n .place))
 
 pub write-plan-spec : {M : Type 1} → statement M
 write-plan-spec =
