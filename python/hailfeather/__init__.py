@@ -9,7 +9,7 @@ may be changed by another thread while a call reads it.
 >>> plan.destination(opened, 2)
 300
 
-How long a call takes may depend on secrets: timing is not hidden, and no randomness is gathered.
+How long a call takes is not promised to be independent of secrets, and no randomness is gathered.
 
 The shared object is the one that the environment variable HAILFEATHER_LIBRARY names; else it is made from the repository's static library.
 """

@@ -31,7 +31,7 @@ Pipes: a command after a pipe runs even if the one before it was refused, and th
 write to a file with -o and go on with &&, or say set -o pipefail for the shell to report a refusal.
 Texts: an option --X TEXT can also be given as --X-hex HEX or as --X-file FILE.
 Secrets: keys and seeds are read from files alone, since every user of the machine can see the arguments.
-Timing: how long a comparison takes is not hidden, and how long any command takes may depend on secrets.
+Timing: nothing is promised of how long a command takes; it may depend on secrets.
 
 Exit status:
      0  done

@@ -70,7 +70,7 @@
 //!
 //! # What is not promised
 //!
-//! How long a call takes may depend on secrets: timing is not hidden. No randomness is gathered. Sessions and generators are overwritten when they
+//! How long a call takes is not promised to be independent of secrets. No randomness is gathered. Sessions and generators are overwritten when they
 //! are dropped, but not the copies that moves and calls leave on the stack.
 //!
 //! # Building
