@@ -1,5 +1,5 @@
-/* Hailfeather: Keccak-p[1600, 24], cSHAKE256, KMAC256 and KMACXOF256 in one call and in running sessions, sealing and opening by the KMAC AEAD, the
- * cSHAKE generator, and chute plans. Link with libhailfeather.a (x86-64), which needs nothing but the C library's memory functions.
+/* Hailfeather: Keccak-p[1600, 24], cSHAKE256, KMAC256 and KMACXOF256 in one call, the first and the last also in running sessions, sealing and opening by the
+ * KMAC AEAD, the cSHAKE generator, and chute plans. Link with libhailfeather.a (x86-64), which needs nothing but the C library's memory functions.
  *
  * Pointers. Every pointer to bytes or rows is followed by the number of its elements. No pointer may be null, also where there are no elements: lend
  * HF_NOTHING, or any other pointer that is not null, with the length 0. Compilers that know the attribute warn of a null pointer. Bytes need no alignment; rows

@@ -1,4 +1,4 @@
--- The edges of the refusal table (docs/RULES.md, 'Numbers') and the counts of KMACXOF256 in 'Both sides of the line'.
+-- The edges of the refusal table (docs/RULES.md, 'Numbers') and the counts of KMACXOF256 ('Facts').
 use mathlib.Core.Path.{_≡_, refl, _∙_}
 use mathlib.Core.List.{List, [], _∷_, _++_}
 use Prim.Native.Nat.{ℕ, _+_, _/_}
