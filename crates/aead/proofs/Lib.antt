@@ -3,3 +3,4 @@ pub mod Comparing
 pub mod Refusals
 pub mod Answers
 pub mod RoundTrip
+pub mod Facts

@@ -1,21 +1,21 @@
 -- Reading what was written gives the rows: the plan's bytes read as the rows, whose lookups are the list's.
 use mathlib.Core.Path.{_≡_, refl, sym, ap, _∙_}
-use mathlib.Core.List.{List}
+use mathlib.Core.List.{List, [], _∷_}
 use mathlib.Core.Bool.{Bool, true, false, cond, _&&_}
 use Prim.Native.Nat.{ℕ, zero, suc, _≤_, _<_}
 use native.Mathlib.Omega.{arith}
 use lib.ListN.{length, getD}
 use lib.Dec.{ltb, leb, eqb}
-use borrow.Author.Tests.{ltb-true, ltb-false, leb-true, eq-eqb}
+use borrow.Author.Tests.{ltb-true, ltb-false, leb-true, le-leb, eq-eqb}
 use Rattle.leb128.specs.Written.{writtenNumber}
-use Rattle.plan.specs.Limits.{maxRows}
+use Rattle.plan.specs.Limits.{maxRows, maxDestination}
 use Rattle.plan.specs.Plan.{rows, planOf}
 use Rattle.plan.specs.Answers.{lookupOf, noDestination}
 use Rattle.plan.specs.Laws.Lookup.{lookup-row, lookup-zero, lookup-past, count-rows}
 use Rattle.plan.specs.declared.Row.{Row}
 use Rattle.plan.specs.declared.Lookup.{Lookup}
 use Rattle.plan_write.specs.Write.{writtenPlan, rowsAllowed, allowed, lengthIs, noLength, lengthOf, fills, writeRefusal, writtenOf}
-use Rattle.plan_write.specs.RoundTrip.{lookupIn, ReadsAs, RoundTrip}
+use Rattle.plan_write.specs.RoundTrip.{lookupIn, ReadsAs, EachFits, RoundTrip}
 use Rattle.plan_write.specs.WriteLaws.{and-left, and-right, placed, placed-length, placed-row, plan-back}
 use Rattle.plan_write.specs.declared.PlanLength.{PlanLength}
 
@@ -67,5 +67,14 @@ accepted l = go (allowed l)
     go true e = rw (eq-eqb (length (writtenPlan l)) (length (writtenPlan l)) refl)
     go false e = absurd (omega arith)
 
+rows-allowed : (l : List ℕ) → EachFits l → rowsAllowed l ≡ true
+unfolding rowsAllowed
+rows-allowed [] h = refl
+rows-allowed (v ∷ l) h = rw (le-leb v maxDestination (h .0)) (rows-allowed l (h .1))
+
+accepts : (l : List ℕ) → length l ≤ maxRows → EachFits l → lengthOf l .number ≡ 0
+unfolding lengthOf allowed
+accepts l within h = rw (le-leb (length l) maxRows within, rows-allowed l h)
+
 pub round-trip : RoundTrip
-round-trip = record { reads-back = written-reads; length-accepted = accepted }
+round-trip = record { accepts = accepts; reads-back = written-reads; length-accepted = accepted }

@@ -1,11 +1,12 @@
 -- Reading what was written gives the rows (docs/RULES.md, 'Chute plan'), by the answers that the entries promise.
-use Prim.Native.Nat.{ℕ, zero, suc}
+use Prim.Native.Nat.{ℕ, zero, suc, _≤_}
 use mathlib.Core.Path.{_≡_}
-use mathlib.Core.List.{List}
+use mathlib.Core.List.{List, [], _∷_}
 use mathlib.Core.Bool.{cond}
 use lib.Dec.{ltb}
 use lib.ListN.{length, getD}
 use Rattle.answers.specs.Numbers.{done, noSuchChute}
+use Rattle.plan.specs.Limits.{maxRows, maxDestination}
 use Rattle.plan.specs.Answers.{summaryOf, lookupOf, noDestination}
 use Rattle.plan.specs.declared.Lookup.{Lookup}
 use Rattle.plan_write.specs.Write.{lengthOf, writeRefusal, writtenOf}
@@ -20,7 +21,14 @@ pub record ReadsAs (l s : List ℕ) : Type 0 where
   pub count : summaryOf s ≡ record { number = done; rows = length l }
   pub every-chute : (chute : ℕ) → lookupOf s chute ≡ lookupIn l chute
 
+-- every destination fits three groups
+abbrev pub EachFits : List ℕ → Type 0
+EachFits [] = Unit
+EachFits (v ∷ l) = (v ≤ maxDestination) × EachFits l
+
 pub record RoundTrip : Type 0 where
+  -- rows that keep the plan's rules are not refused
+  pub accepts : (l : List ℕ) → length l ≤ maxRows → EachFits l → lengthOf l .number ≡ done
   -- where writing was accepted, the buffer reads as the rows
   pub reads-back : (l out : List ℕ) → writeRefusal l (length out) ≡ done → ReadsAs l (writtenOf l out)
   -- a buffer of the length that was asked for first is accepted
