@@ -1,4 +1,5 @@
--- The edges of the lengths' refusals, and their order (docs/RULES.md, 'Numbers'), by computation: key, IV, text, label, output, tag. proofs/Facts.antt proves them.
+-- The edges of the lengths' refusals, and their order (docs/RULES.md, 'Numbers'), by computation: key, IV, text, label, output, tag.
+-- proofs/Facts.antt proves them.
 use mathlib.Core.Path.{_≡_}
 use Rattle.aead.specs.Limits.{leastTag}
 use Rattle.aead.specs.Refusals.{lengthsRefusal}

@@ -15,7 +15,8 @@ returns c =
     let a = c .before .before .before .before .before .args in
     c .exported-answer .ensures
     ∙ ap exportedAnswer
-    (c .before .seed .ensures ∙ ap (λ (g : Generator). seedAnswer cshakeDrng g (now (a .seed)) (now (a .personalisation))) (c .before .before .imported .ensures))
+    (c .before .seed .ensures
+    ∙ ap (λ (g : Generator). seedAnswer cshakeDrng g (now (a .seed)) (now (a .personalisation))) (c .before .before .imported .ensures))
 
 pub seed-spec : {M : Type 1} → statement M
 seed-spec = tie.close (tie.spec (λ c κs. search needs) (λ c κs. search needs) (λ c κs. search needs) returns)

@@ -25,7 +25,8 @@ returns c =
     (c .refuse .ensures ∙ ap (λ (k : ℕ). sessionAnswer k (a .s)) (tested .over-total .ensures) ∙ rw long, rw long)
 
 -- a total that is not refused keeps the limit
-within : (c : tie.Else1) → c .before .before .before .args .s .given + length (c .before .before .before .args .out .now) ≤ c .before .before .before .args .s .limit
+within : (c : tie.Else1)
+    → c .before .before .before .args .s .given + length (c .before .before .before .args .out .now) ≤ c .before .before .before .args .s .limit
 within c =
     let a = c .before .before .before .args in
     over-passed (a .s .given + length (a .out .now)) (a .s .limit) 5 (sym (c .before .over-total .ensures) ∙ c .if1 .left)
