@@ -8,6 +8,7 @@ use lib.Dec.{eqb}
 use lib.ListN.{length}
 use Rattle.answers.specs.Numbers.{done, inputTooLong, badOutputLength}
 use Rattle.answers.specs.Done.{firstOf, over}
+use Rattle.encode.specs.Padding.{rate}
 use Rattle.encode.specs.Encode.{encodeString, rightEncode, bytepad, KMAC}
 use Rattle.calls.specs.Limits.{maxMessage, maxOutput}
 use Rattle.calls.specs.Input.{Input, fedBytes}
@@ -49,10 +50,13 @@ outputRefusal cSHAKE256 n = over n maxOutput badOutputLength
 outputRefusal KMAC256 n = firstOf (over n maxOutput badOutputLength) (cond (eqb n 0) badOutputLength done)
 outputRefusal KMACXOF256 n = over n maxOutput badOutputLength
 
--- the number that a call is answered with, the smallest that applies: the start's, then 5, then 6
+-- the smallest that applies: the start's number k, then 5 for a message of m bytes, then 6 for an output of n
+abbrev pub callRefusal : Function → (k m n : ℕ) → ℕ
+callRefusal f k m n = firstOf k (firstOf (messageRefusal m) (outputRefusal f n))
+
+-- the number that a call is answered with
 unfoldable pub refusal : {f : Function} → Call f → ℕ
-refusal {f} c =
-    firstOf (startRefusal (startOf c)) (firstOf (messageRefusal (length (messageOf c))) (outputRefusal f (outputBytes c)))
+refusal {f} c = callRefusal f (startRefusal (startOf c)) (length (messageOf c)) (outputBytes c)
 
 abbrev pub Accepted : {f : Function} → Call f → Type 0
 Accepted c = refusal c ≡ 0
@@ -61,7 +65,7 @@ Accepted c = refusal c ≡ 0
 
 -- cSHAKE256 of bytepad(encode_string(K), 136), X, right_encode(L), with N = KMAC
 abbrev pub kmacInput : List ℕ → List ℕ → ℕ → List ℕ → Input
-kmacInput K X L S = record { name = KMAC; customisation = S; message = bytepad (encodeString K) 136 ++ X ++ rightEncode L }
+kmacInput K X L S = record { name = KMAC; customisation = S; message = bytepad (encodeString K) rate ++ X ++ rightEncode L }
 
 -- the input of the cSHAKE256 call that a call is made of
 abbrev pub input : {f : Function} → Call f → Input

@@ -2,7 +2,7 @@
 use mathlib.Core.Bool.{Bool, true, false, cond, _&&_}
 use mathlib.Core.List.{List, [], _∷_, _++_}
 use Prim.Native.Nat.{ℕ}
-use Rattle.encode.specs.Padding.{padded}
+use Rattle.encode.specs.Padding.{rate, padded}
 use Rattle.encode.specs.Encode.{encodeString, bytepad}
 
 -- N, S and X
@@ -21,7 +21,7 @@ isShake N S = isEmpty N && isEmpty S
 
 -- the bytes before the message
 abbrev pub cshakePrefix : List ℕ → List ℕ → List ℕ
-cshakePrefix N S = cond (isShake N S) [] (bytepad (encodeString N ++ encodeString S) 136)
+cshakePrefix N S = cond (isShake N S) [] (bytepad (encodeString N ++ encodeString S) rate)
 
 -- the suffix byte after it
 abbrev pub cshakeSuffix : List ℕ → List ℕ → ℕ

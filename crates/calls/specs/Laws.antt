@@ -2,6 +2,5 @@
 pub mod Refusal
 pub mod Input
 pub mod Fed
-pub mod FedAlike
 pub mod Runs
 pub mod Bytes

@@ -1,12 +1,9 @@
--- The fed bytes of three of NIST's published samples (cSHAKE_samples and KMAC_samples, 256 bits: cSHAKE #3, KMAC #4, KMACXOF #4), by computation.
-use mathlib.Core.Path.{_≡_, refl}
+-- The fed bytes of three of NIST's published samples (cSHAKE_samples and KMAC_samples, 256 bits: cSHAKE #3, KMAC #4, KMACXOF #4).
+-- proofs/Samples.antt proves them by computation.
+use mathlib.Core.Path.{_≡_}
 use mathlib.Core.List.{List, [], _∷_, _++_}
 use Prim.Native.Nat.{ℕ}
 use lib.ListN.{replicate}
-use Rattle.encode.specs.Digits.{widthIn}
-use Rattle.encode.specs.Padding.{padTo, withLastBit, padded}
-use Rattle.encode.specs.Encode.{bigEndian, leftEncode, rightEncode, encodeString, bytepad}
-use Rattle.calls.specs.Input.{fedBytes}
 use Rattle.calls.specs.Call.{cshake256, kmac256, kmacxof256, fed}
 
 -- 40 to 5F
@@ -39,7 +36,3 @@ pub record Samples : Type 0 where
   pub kmacxof4 : fed (kmacxof256 key data4 64 tagged) ≡ keyBlocks ++ data4 ++ (0x00 ∷ 0x01 ∷ 0x04 ∷ []) ++ replicate 128 0 ++ (0x80 ∷ [])
   -- SHAKE256 of the same data: no block before it
   pub shake : fed (cshake256 data4 64 [] []) ≡ data4 ++ (0x1f ∷ []) ++ replicate 130 0 ++ (0x80 ∷ [])
-
-pub samples : Samples
-unfolding fed fedBytes padded withLastBit padTo bytepad encodeString leftEncode rightEncode bigEndian widthIn
-samples = record { cshake3 = refl; kmac4 = refl; kmacxof4 = refl; shake = refl }

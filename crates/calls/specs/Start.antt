@@ -6,6 +6,7 @@ use lib.Dec.{eqb}
 use lib.ListN.{length}
 use Rattle.answers.specs.Numbers.{done, badKeyLength, stringTooLong, reservedName}
 use Rattle.answers.specs.Done.{firstOf, over}
+use Rattle.encode.specs.Padding.{rate}
 use Rattle.encode.specs.Encode.{encodeString, bytepad, KMAC}
 use Rattle.calls.specs.Limits.{maxKey, maxName, maxCustomisation}
 use Rattle.calls.specs.Input.{cshakePrefix, cshakeSuffix}
@@ -36,7 +37,7 @@ startRefusal (keyed K S) = firstOf (over (length K) maxKey badKeyLength) (over (
 -- the bytes before the message, whole blocks
 unfoldable pub startPrefix : Start → List ℕ
 startPrefix (named N S) = cshakePrefix N S
-startPrefix (keyed K S) = cshakePrefix KMAC S ++ bytepad (encodeString K) 136
+startPrefix (keyed K S) = cshakePrefix KMAC S ++ bytepad (encodeString K) rate
 
 -- the suffix byte of the padding
 unfoldable pub startSuffix : Start → ℕ

@@ -1,3 +1,4 @@
--- Lemmas on the bytes that the functions write.
+-- The facts, and lemmas on the bytes that the functions write.
+pub mod Facts
 mod Stored
 mod Filled

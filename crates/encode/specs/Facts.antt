@@ -1,11 +1,10 @@
--- P1 to P7 of docs/RULES.md, 'Facts', and the bytes it names at the end of a last block with one free byte, by computation.
-use mathlib.Core.Path.{_≡_, refl}
+-- P1 to P7 of docs/RULES.md, 'Facts', and the bytes it names at the end of a last block with one free byte. proofs/Facts.antt proves them by computation.
+use mathlib.Core.Path.{_≡_}
 use mathlib.Core.List.{[], _∷_}
-use Prim.Native.Nat.{_*_}
+use Prim.Native.Nat.{_*_, _-_}
 use lib.ListN.{length, getD, replicate}
-use Rattle.encode.specs.Digits.{widthIn}
-use Rattle.encode.specs.Padding.{padTo, withLastBit, padded}
-use Rattle.encode.specs.Encode.{bigEndian, leftEncode, rightEncode, encodeString, bytepad, KMAC}
+use Rattle.encode.specs.Padding.{rate, padded}
+use Rattle.encode.specs.Encode.{leftEncode, rightEncode, encodeString, bytepad, KMAC}
 
 pub record Facts : Type 0 where
   pub p1 : leftEncode 0 ≡ 0x01 ∷ 0x00 ∷ []
@@ -16,19 +15,11 @@ pub record Facts : Type 0 where
   pub p6 : encodeString KMAC ≡ 0x01 ∷ 0x20 ∷ 0x4b ∷ 0x4d ∷ 0x41 ∷ 0x43 ∷ []
   pub p7 : leftEncode 136 ≡ 0x01 ∷ 0x88 ∷ []
 
-pub facts : Facts
-unfolding leftEncode rightEncode encodeString bigEndian widthIn
-facts = record { p1 = refl; p2 = refl; p3 = refl; p4 = refl; p5 = refl; p6 = refl; p7 = refl }
-
 -- one free byte takes the suffix and the last bit; none free, and the padding is a block of its own
 pub record LastBlock : Type 0 where
-  pub shake : getD (padded 0x1f (replicate 135 0)) 135 0 ≡ 0x9f
-  pub cshake : getD (padded 0x04 (replicate 135 0)) 135 0 ≡ 0x84
-  pub full : length (padded 0x04 (replicate 136 0)) ≡ 2 * 136
+  pub lastOfShake : getD (padded 0x1f (replicate (rate - 1) 0)) (rate - 1) 0 ≡ 0x9f
+  pub lastOfCshake : getD (padded 0x04 (replicate (rate - 1) 0)) (rate - 1) 0 ≡ 0x84
+  pub full : length (padded 0x04 (replicate rate 0)) ≡ 2 * rate
   -- bytepad adds no block to bytes that fill theirs
-  pub filled : length (bytepad (replicate 134 0) 136) ≡ 136
-  pub begun : length (bytepad (replicate 135 0) 136) ≡ 2 * 136
-
-pub lastBlock : LastBlock
-unfolding padded padTo withLastBit bytepad leftEncode bigEndian widthIn
-lastBlock = record { shake = refl; cshake = refl; full = refl; filled = refl; begun = refl }
+  pub noBlockMore : length (bytepad (replicate (rate - 2) 0) rate) ≡ rate
+  pub blockMore : length (bytepad (replicate (rate - 1) 0) rate) ≡ 2 * rate

@@ -1,15 +1,15 @@
 -- From the numbers on the way and what `run` does to what a call answers: the laws are over any call.
-use mathlib.Core.Path.{_≡_, refl, sym, ap, ap₂, _∙_}
+use mathlib.Core.Path.{_≡_, refl, ap, _∙_}
 use mathlib.Core.List.{List, _++_}
 use Prim.Native.Nat.{ℕ, zero, suc, _+_, _%_, _^_, _≤_}
 use native.Mathlib.Nat.{mod-eq-of-lt}
 use native.Mathlib.Omega.{arith}
 use lib.ListN.{length}
 use Rattle.answers.specs.declared.Outcome.{Outcome}
-use Rattle.answers.specs.Done.{ifDone, firstOf, over, outcomeOf}
+use Rattle.answers.specs.Done.{ifDone, over, outcomeOf}
 use Rattle.answers.specs.Laws.{firstOf-passed, over-passed}
 use Rattle.calls.specs.Limits.{maxMessage, maxOutput}
-use Rattle.calls.specs.Call.{Function, cSHAKE256, KMAC256, KMACXOF256, Call, startOf, messageOf, outputBytes, messageRefusal, outputRefusal, refusal, fed, ending}
+use Rattle.calls.specs.Call.{Function, cSHAKE256, KMAC256, KMACXOF256, Call, startOf, messageOf, outputBytes, outputRefusal, callRefusal, refusal, fed, ending}
 use Rattle.calls.specs.Count.{outputRuns, runs, reportedRuns}
 use Rattle.calls.specs.Laws.Refusal.{start-accepted, message-accepted, output-accepted}
 use Rattle.calls.specs.Laws.Runs.{length-ending, runs-by-lengths}
@@ -22,18 +22,11 @@ use Rattle.hash.specs.Outcome.{outcome, written}
 
 -- ---- numbers
 
--- two chains, one after the other, are one
-pub chain : (s m o e : ℕ) → firstOf (firstOf s (firstOf m o)) e ≡ firstOf s (firstOf m (firstOf o e))
-chain (suc s) m o e = refl
-chain zero (suc m) o e = refl
-chain zero zero o e = refl
-
 -- the call's number is the start's own, then those of the lengths
 pub numbered : {f : Function} (c : Call f) (s : Started) → Starts (startOf c) s
-    → firstOf (s .number) (firstOf (messageRefusal (length (messageOf c))) (outputRefusal f (outputBytes c))) ≡ refusal c
+    → callRefusal f (s .number) (length (messageOf c)) (outputBytes c) ≡ refusal c
 unfolding refusal
-numbered {f} c s h =
-    ap (λ (k : ℕ). firstOf k (firstOf (messageRefusal (length (messageOf c))) (outputRefusal f (outputBytes c)))) (start-number (startOf c) s h)
+numbered {f} c s h = ap (λ (k : ℕ). callRefusal f k (length (messageOf c)) (outputBytes c)) (start-number (startOf c) s h)
 
 -- ---- what does not count where a call is refused
 

@@ -2,30 +2,16 @@
 ghost use mathlib.Core.Path.{_≡_};
 ghost use mathlib.Core.Bool.{cond};
 ghost use Prim.Native.Nat.{_*_};
-ghost use lib.Dec.{ltb, eqb};
+ghost use lib.Dec.{ltb};
 ghost use lib.ListN.{length};
-ghost use Rattle.answers.specs.Numbers.{done, badOutputLength};
 ghost use Rattle.calls.specs.Limits.{maxOutput};
 ghost use Rattle.calls.specs.Call.{kmac256};
 ghost use Rattle.hash.specs.Outcome.{outcome, written};
-use crate::first_refusal;
-use answers::BAD_OUTPUT_LENGTH;
-use answers::DONE;
 use answers::Outcome;
-use answers::first_of;
 use calls::MAX_OUTPUT;
 use one_shot::run;
+use refusals::kmac256_refusal;
 use start::start_keyed;
-
-// 6 for an output of no bytes.
-fn empty(out: usize) -> u8
-    ensures { λ r. ⌜ r ≡ cond (eqb out 0) badOutputLength done ⌝ }
-{
-    if out == 0 {
-        return BAD_OUTPUT_LENGTH;
-    }
-    DONE
-}
 
 // The bits of an output that is not too long; 0 of one that is.
 fn output_bits(out: usize) -> u64
@@ -45,7 +31,7 @@ pub fn kmac256(key: &[u8], customisation: &[u8], message: &[u8], out: &mut [u8])
 {
     let start = start_keyed(key, customisation);
     let n = out.len();
-    let number = first_of(first_refusal(start.number, message.len(), n), empty(n));
+    let number = kmac256_refusal(start.number, message.len(), n);
     let code = encode::right_encode(output_bits(n));
     let bytes = code.bytes;
     let end = code.len;

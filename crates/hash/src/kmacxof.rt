@@ -3,9 +3,9 @@ ghost use mathlib.Core.Path.{_≡_};
 ghost use lib.ListN.{length};
 ghost use Rattle.calls.specs.Call.{kmacxof256};
 ghost use Rattle.hash.specs.Outcome.{outcome, written};
-use crate::first_refusal;
 use answers::Outcome;
 use one_shot::run;
+use refusals::extendable_refusal;
 use start::start_keyed;
 
 // KMACXOF256(key, message, 8 * out.len(), customisation).
@@ -15,7 +15,7 @@ pub fn kmacxof256(key: &[u8], customisation: &[u8], message: &[u8], out: &mut [u
         ≡ written (kmacxof256 (now (key .entry)) (now (message .entry)) (length (now (out .entry))) (now (customisation .entry))) (now (out .entry))) ⌝ }
 {
     let start = start_keyed(key, customisation);
-    let number = first_refusal(start.number, message.len(), out.len());
+    let number = extendable_refusal(start.number, message.len(), out.len());
     // right_encode(0)
     run(number, start, message, b"\x00\x01", out)
 }

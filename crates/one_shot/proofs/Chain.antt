@@ -5,13 +5,14 @@ use Prim.Native.Nat.{ℕ, zero, suc, _%_, _<_}
 use native.Mathlib.Nat.{mod-eq-of-lt}
 use lib.ListN.{length}
 use Rattle.answers.specs.Done.{outcomeOf}
+use Rattle.encode.specs.Padding.{rate}
 use Rattle.sponge.specs.Running.{Running, running, absorbed, finished, squeezed}
 use Rattle.sponge.proofs.Absorbing.{absorbed-append}
 use Rattle.start.specs.declared.Started.{Started}
 use Rattle.one_shot.specs.Run.{runOutcome, runOutput}
 
-pub chained : (l a b d m e : List ℕ) (p q suffix n : ℕ) → running a p ≡ absorbed (running l 0) m → p < 136 → running b q ≡ absorbed (running a (p % 136)) e
-    → q < 136 → running d 0 ≡ finished suffix (running b (q % 136))
+pub chained : (l a b d m e : List ℕ) (p q suffix n : ℕ) → running a p ≡ absorbed (running l 0) m → p < rate → running b q ≡ absorbed (running a (p % rate)) e
+    → q < rate → running d 0 ≡ finished suffix (running b (q % rate))
     → squeezed n (running d 0) ≡ squeezed n (finished suffix (absorbed (running l 0) (m ++ e)))
 chained l a b d m e p q suffix n first hp second hq end =
     ap (squeezed n)

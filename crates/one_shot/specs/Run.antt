@@ -4,13 +4,14 @@ use Prim.Native.Nat.{ℕ, _+_, _/_, _%_, _^_}
 use lib.ListN.{length}
 use Rattle.answers.specs.declared.Outcome.{Outcome}
 use Rattle.answers.specs.Done.{ifDone, outcomeOf}
+use Rattle.encode.specs.Padding.{rate}
 use Rattle.calls.specs.Count.{outputRuns}
 use Rattle.sponge.specs.Running.{running, absorbed, finished, squeezed}
 use Rattle.start.specs.declared.Started.{Started}
 
 -- the permutations, by the blocks of the start and the lengths of message, ending and output; sums are of 64 bits
 abbrev pub runsFrom : (start message ending out : ℕ) → ℕ
-runsFrom start message ending out = (start + ((message + ending) % 2 ^ 64 / 136 + 1 + outputRuns out)) % 2 ^ 64
+runsFrom start message ending out = (start + ((message + ending) % 2 ^ 64 / rate + 1 + outputRuns out)) % 2 ^ 64
 
 unfoldable pub runOutcome : ℕ → Started → (m e : List ℕ) → ℕ → Outcome
 runOutcome k s m e n = outcomeOf k (runsFrom (s .blocks) (length m) (length e) n)

@@ -5,6 +5,7 @@ ghost use Rattle.one_shot.specs.Run.{runsFrom, runOutcome, runOutput};
 use answers::DONE;
 use answers::Outcome;
 use calls::output_runs;
+use encode::RATE;
 use sponge::absorb;
 use sponge::finish;
 use sponge::squeeze;
@@ -15,7 +16,7 @@ use std::num::wrapping_add_usize;
 fn runs(start: usize, message: usize, ending: usize, out: usize) -> usize
     ensures { λ r. ⌜ r ≡ runsFrom start message ending out ⌝ }
 {
-    let input = wrapping_add_usize(message, ending) / 136 + 1;
+    let input = wrapping_add_usize(message, ending) / RATE + 1;
     wrapping_add_usize(start, input + output_runs(out))
 }
 

@@ -1,9 +1,10 @@
--- The edges of a piece, by computation: what docs/RULES.md, 'Facts', counts draws by, and the key that a draw of 0 bytes leaves.
-use mathlib.Core.Path.{_≡_, refl}
+-- The edges of a piece: what docs/RULES.md, 'Facts', counts draws by, and the key that a draw of 0 bytes leaves. proofs/Facts.antt proves them by
+-- computation.
+use mathlib.Core.Path.{_≡_}
 use mathlib.Core.List.{List, [], _++_}
 use Prim.Native.Nat.{ℕ}
 use lib.ListN.{take}
-use Rattle.pieces.specs.Pieces.{Generated, pieceCount, cut, keyAfter, streamOf, drawn}
+use Rattle.pieces.specs.Pieces.{Generated, pieceCount, cut, drawn}
 
 pub record PieceFacts (generate : List ℕ → Generated) (key : List ℕ) : Type 0 where
   pub count0 : pieceCount 0 ≡ 0
@@ -20,17 +21,5 @@ pub record PieceFacts (generate : List ℕ → Generated) (key : List ℕ) : Typ
   pub two : drawn generate 209 key
       ≡ record { key = generate (generate key .key) .key; stream = take 209 (generate key .stream ++ (generate (generate key .key) .stream ++ [])) }
 
-pub pieceFacts : (generate : List ℕ → Generated) (key : List ℕ) → PieceFacts generate key
-unfolding pieceCount cut keyAfter streamOf drawn
-pieceFacts generate key =
-    record {
-      count0 = refl;
-      count1 = refl;
-      count208 = refl;
-      count209 = refl;
-      cut207 = refl;
-      cut209 = refl;
-      none = refl;
-      twenty = refl;
-      two = refl;
-    }
+abbrev pub PieceFactsHold : Type 0
+PieceFactsHold = (generate : List ℕ → Generated) (key : List ℕ) → PieceFacts generate key

@@ -1,4 +1,4 @@
--- The definitions; then facts by computation, and the laws.
+-- The definitions; then facts, and the laws.
 pub mod Pieces
 pub mod Facts
 pub mod Laws

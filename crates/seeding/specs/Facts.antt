@@ -1,18 +1,14 @@
--- A seeding's limits, and all that the first seeding of a generator with nothing to add is fed, by computation.
-use mathlib.Core.Path.{_≡_, refl}
+-- A seeding's limits, and all that the first seeding of a generator with nothing to add is fed. proofs/Facts.antt proves them by computation.
+use mathlib.Core.Path.{_≡_}
 use mathlib.Core.List.{[], _∷_, _++_}
 use Prim.Native.Nat.{ℕ}
 use lib.ListN.{replicate}
-use Rattle.encode.specs.Digits.{widthIn}
-use Rattle.encode.specs.Padding.{padTo, withLastBit, padded}
-use Rattle.encode.specs.Encode.{bigEndian, leftEncode, encodeString, bytepad}
-use Rattle.calls.specs.Input.{fedBytes}
 use Rattle.calls.specs.Call.{fed}
-use Rattle.seeding.specs.Seeding.{Seeding, seedCall, seedLengthsRefusal, seedRefusal}
+use Rattle.seeding.specs.Seeding.{Seeding, keyBytes, seedCall, seedRefusal}
 
 -- from the first key, with a seed and a personalisation of these lengths
 abbrev seeding : ℕ → ℕ → Seeding
-seeding n p = record { key = replicate 64 0; seed = replicate n 0; personalisation = replicate p 0 }
+seeding n p = record { key = replicate keyBytes 0; seed = replicate n 0; personalisation = replicate p 0 }
 
 pub record SeedingFacts : Type 0 where
   pub personalisation84 : seedRefusal (seeding 0 84) ≡ 0
@@ -23,14 +19,3 @@ pub record SeedingFacts : Type 0 where
   pub empty : fed (seedCall (seeding 0 0))
       ≡ (0x01 ∷ 0x88 ∷ 0x01 ∷ 0x80 ∷ 0x63 ∷ 0x53 ∷ 0x48 ∷ 0x41 ∷ 0x4b ∷ 0x45 ∷ 0x2d ∷ 0x44 ∷ 0x52 ∷ 0x4e ∷ 0x47 ∷ 0x20 ∷ 0x73 ∷ 0x65 ∷ 0x65 ∷ 0x64 ∷ [])
       ++ (0x02 ∷ 0x02 ∷ 0x00 ∷ replicate 64 0) ++ replicate 49 0 ++ (0x00 ∷ 0x04 ∷ []) ++ replicate 133 0 ++ (0x80 ∷ [])
-
-pub seedingFacts : SeedingFacts
-unfolding seedLengthsRefusal fed fedBytes padded withLastBit padTo bytepad encodeString leftEncode bigEndian widthIn
-seedingFacts =
-    record {
-      personalisation84 = refl;
-      personalisation85 = refl;
-      seed65536 = refl;
-      seed65537 = refl;
-      empty = refl;
-    }

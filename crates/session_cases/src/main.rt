@@ -2,7 +2,7 @@
 // reference/session_cases.py.
 mod cuts;
 mod limits;
-mod refusals;
+mod refused;
 mod steps;
 
 fn main() {
@@ -15,6 +15,6 @@ fn main() {
         b"KMACXOF256",
         session::start_kmacxof256(b"a key of the night shift", b"line 1, chute 23").session,
     );
-    refusals::report();
+    refused::report();
     limits::report();
 }

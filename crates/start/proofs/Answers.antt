@@ -9,6 +9,7 @@ use lib.ListN.{length, replicate, length-append}
 use Rattle.answers.specs.Done.{over}
 use Rattle.answers.specs.Laws.{firstOf-passed, over-passed}
 use Rattle.calls.specs.Limits.{maxKey, maxName, maxCustomisation}
+use Rattle.encode.specs.Padding.{rate}
 use Rattle.encode.specs.Encode.{encodeString, bytepad, KMAC}
 use Rattle.encode.specs.Laws.Lengths.{bytepad-blocks}
 use Rattle.calls.specs.Input.{isShake, cshakePrefix, cshakeSuffix}
@@ -17,7 +18,7 @@ use Rattle.calls.specs.Laws.Input.{isShake-lengths}
 use Rattle.sponge.specs.Running.{Running, running, fresh, absorbed}
 use Rattle.sponge.proofs.Absorbing.{absorbed-append}
 use Rattle.start.specs.declared.Started.{Started}
-use Rattle.start.specs.Started.{afterPrefix, refusedStart, startAnswer, started, Starts}
+use Rattle.start.specs.Started.{afterPrefix, refusedStart, startAnswer, started, mostBlocks, Starts}
 use Rattle.start.specs.Prefix.{Padded}
 
 pub refused-starts : (s : Start) (k : ℕ) (r : Started) → k ≡ startRefusal s → (k ≡ 0 → ⊥) → r ≡ refusedStart k → Starts s r
@@ -40,7 +41,7 @@ keyed-lengths K S e =
     let k = firstOf-passed (over (length K) maxKey 2) _ e in
     (over-passed (length K) maxKey 1 (k .0), over-passed (length S) maxCustomisation 2 (k .1))
 
-accepted-starts : (s : Start) (r : Started) → startRefusal s ≡ 0 → r ≡ afterPrefix s → r .blocks ≤ 128 → Starts s r
+accepted-starts : (s : Start) (r : Started) → startRefusal s ≡ 0 → r ≡ afterPrefix s → r .blocks ≤ mostBlocks → Starts s r
 unfolding started
 accepted-starts s r e is bounded = record { is = is ∙ sym (ap (λ (n : ℕ). startAnswer n s) e); bounded = bounded }
 
@@ -64,13 +65,13 @@ named-starts N S b k e some p =
     (omega (arith, p .bounded))
 
 pub keyed-starts : (K S b d : List ℕ) (k l : ℕ) → startRefusal (keyed K S) ≡ 0 → Padded (encodeString KMAC ++ encodeString S) (replicate 25 0) b k
-    → Padded (encodeString K) b d l → k + l ≤ 128 → Starts (keyed K S) (answer d 0x04 (k + l))
+    → Padded (encodeString K) b d l → k + l ≤ mostBlocks → Starts (keyed K S) (answer d 0x04 (k + l))
 unfolding startPrefix startSuffix
 keyed-starts K S b d k l e p q bounded =
-    let x : List ℕ = bytepad (encodeString KMAC ++ encodeString S) 136 in
-    let y : List ℕ = bytepad (encodeString K) 136 in
+    let x : List ℕ = bytepad (encodeString KMAC ++ encodeString S) rate in
+    let y : List ℕ = bytepad (encodeString K) rate in
     let lanes : running d 0 ≡ absorbed fresh (x ++ y)
     = q .lanes ∙ ap (λ (u : Running). absorbed u y) (p .lanes) ∙ sym (absorbed-append fresh x y) in
-    let n : k + l ≡ length (x ++ y) / 136
+    let n : k + l ≡ length (x ++ y) / rate
     = omega (arith, length-append x y, bytepad-blocks (encodeString KMAC ++ encodeString S), bytepad-blocks (encodeString K), p .blocks, q .blocks) in
     accepted-starts (keyed K S) (answer d 0x04 (k + l)) e (λ i. answer (lanes i .lanes) 0x04 (n i)) bounded

@@ -2,7 +2,9 @@
 use Prim.Native.Nat.{ℕ, _/_, _≤_}
 use mathlib.Core.Path.{_≡_}
 use lib.ListN.{length, replicate}
+use Rattle.answers.specs.Numbers.{done}
 use Rattle.answers.specs.Done.{ifDone}
+use Rattle.encode.specs.Padding.{rate}
 use Rattle.calls.specs.Start.{Start, startRefusal, startPrefix, startSuffix}
 use Rattle.sponge.specs.Running.{fresh, absorbed}
 use Rattle.start.specs.declared.Started.{Started}
@@ -11,10 +13,10 @@ use Rattle.start.specs.declared.Started.{Started}
 abbrev pub afterPrefix : Start → Started
 afterPrefix s =
     record {
-      number = 0;
+      number = done;
       lanes = absorbed fresh (startPrefix s) .lanes;
       suffix = startSuffix s;
-      blocks = length (startPrefix s) / 136;
+      blocks = length (startPrefix s) / rate;
     }
 
 abbrev pub refusedStart : ℕ → Started
@@ -27,7 +29,11 @@ startAnswer k s = ifDone k (afterPrefix s) (refusedStart k)
 unfoldable pub started : Start → Started
 started s = startAnswer (startRefusal s) s
 
--- the answer, with a bound on its blocks: two strings of 4,096 bytes take at most 62 blocks together
+-- a bound on the blocks of a start: two strings of 4,096 bytes take at most 62 together
+abbrev pub mostBlocks : ℕ
+mostBlocks = 128
+
+-- the answer, with that bound
 pub record Starts (s : Start) (r : Started) : Type 0 where
   pub is : r ≡ started s
-  pub bounded : r .blocks ≤ 128
+  pub bounded : r .blocks ≤ mostBlocks

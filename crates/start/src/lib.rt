@@ -2,6 +2,7 @@
 ghost use mathlib.Core.Path.{_≡_};
 ghost use Rattle.calls.specs.Start.{named, keyed};
 ghost use Rattle.start.specs.Started.{refusedStart, Starts};
+use answers::DONE;
 use calls::KMAC;
 use prefix::absorb_key;
 use prefix::absorb_name;
@@ -34,8 +35,8 @@ fn refuse(number: u8) -> Started
 pub fn start_named(name: &[u8], customisation: &[u8]) -> Started
     ensures { λ r. ⌜ Starts (named (now (name .entry)) (now (customisation .entry))) r ⌝ }
 {
-    let number = calls::named_refusal(name, customisation);
-    if number != 0 {
+    let number = refusals::named_refusal(name, customisation);
+    if number != DONE {
         return refuse(number);
     }
     let mut lanes = [0u64; 25];
@@ -60,8 +61,8 @@ pub fn start_named(name: &[u8], customisation: &[u8]) -> Started
 pub fn start_keyed(key: &[u8], customisation: &[u8]) -> Started
     ensures { λ r. ⌜ Starts (keyed (now (key .entry)) (now (customisation .entry))) r ⌝ }
 {
-    let number = calls::keyed_refusal(key, customisation);
-    if number != 0 {
+    let number = refusals::keyed_refusal(key, customisation);
+    if number != DONE {
         return refuse(number);
     }
     let mut lanes = [0u64; 25];

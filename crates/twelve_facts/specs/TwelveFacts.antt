@@ -2,7 +2,7 @@
 use mathlib.Core.Path.{_≡_}
 use mathlib.Core.List.{[], _∷_}
 use Rattle.encode.specs.Encode.{leftEncode, rightEncode, encodeString, KMAC}
-use Rattle.encode.specs.Facts.{facts}
+use Rattle.encode.proofs.Facts.{facts}
 use Rattle.plan.specs.Answers.{summaryOf, lookupOf, noDestination}
 use Rattle.plan.specs.Examples.{planAbove, plan-examples}
 

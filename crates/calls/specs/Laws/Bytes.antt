@@ -5,6 +5,7 @@ use mathlib.Core.List.{List, [], _++_}
 use Prim.Native.Nat.{ℕ, _*_, _≤_, _<_}
 use native.Mathlib.Omega.{arith}
 use lib.ListN.{length}
+use Rattle.encode.specs.Padding.{rate}
 use Rattle.encode.specs.Encode.{encodeString, bytepad, KMAC}
 use Rattle.encode.specs.Laws.Bytes.{Bytes, append-bytes, encodeString-bytes, rightEncode-bytes, bytepad-bytes, padded-bytes}
 use Rattle.answers.specs.Done.{over}
@@ -24,10 +25,10 @@ StartBytes (keyed K S) = Bytes K × Bytes S
 cshakePrefix-bytes : (N S : List ℕ) → length N ≤ maxName → length S ≤ maxCustomisation → Bytes N → Bytes S → Bytes (cshakePrefix N S)
 cshakePrefix-bytes N S n s p q = go (isShake N S)
   where
-    go : (t : Bool) → Bytes (cond t [] (bytepad (encodeString N ++ encodeString S) 136))
+    go : (t : Bool) → Bytes (cond t [] (bytepad (encodeString N ++ encodeString S) rate))
     go true = tt
     go false =
-        bytepad-bytes (encodeString N ++ encodeString S) 136 (omega arith)
+        bytepad-bytes (encodeString N ++ encodeString S) rate (omega arith)
         (append-bytes (encodeString N) (encodeString S) (encodeString-bytes N (omega arith) p) (encodeString-bytes S (omega arith) q))
 
 startPrefix-bytes : (s : Start) → startRefusal s ≡ 0 → StartBytes s → Bytes (startPrefix s)
@@ -39,9 +40,9 @@ startPrefix-bytes (named N S) h p =
 startPrefix-bytes (keyed K S) h p =
     let a = firstOf-passed (over (length K) maxKey 2) _ h in
     let k = over-passed (length K) maxKey 1 (a .0) in
-    append-bytes (cshakePrefix KMAC S) (bytepad (encodeString K) 136)
+    append-bytes (cshakePrefix KMAC S) (bytepad (encodeString K) rate)
     (cshakePrefix-bytes KMAC S (omega arith) (over-passed (length S) maxCustomisation 2 (a .1)) (omega arith) (p .1))
-    (bytepad-bytes (encodeString K) 136 (omega arith) (encodeString-bytes K (omega arith) (p .0)))
+    (bytepad-bytes (encodeString K) rate (omega arith) (encodeString-bytes K (omega arith) (p .0)))
 
 startSuffix-byte : (s : Start) → startSuffix s < 256
 unfolding startSuffix

@@ -4,7 +4,7 @@ use mathlib.Core.List.{List, _++_, append-assoc, append-nil}
 use Prim.Native.Nat.{ℕ, _*_, _%_}
 use native.Mathlib.Omega.{arith}
 use lib.ListN.{length, length-append}
-use Rattle.encode.specs.Padding.{padded}
+use Rattle.encode.specs.Padding.{rate, padded}
 use Rattle.encode.specs.Encode.{encodeString, rightEncode, bytepad, KMAC}
 use Rattle.encode.specs.Laws.Encode.{encodeString-free, rightEncode-free, bytepad-free}
 use Rattle.encode.specs.Laws.Lengths.{bytepad-blocks}
@@ -46,7 +46,7 @@ extendable-parts (keyed K S) X n = fed-parts (kmacxof256 K X n S)
 -- The prefix
 
 -- it is whole blocks
-pub startPrefix-blocks : (s : Start) → length (startPrefix s) % 136 ≡ 0
+pub startPrefix-blocks : (s : Start) → length (startPrefix s) % rate ≡ 0
 unfolding startPrefix
 startPrefix-blocks (named N S) = cshakePrefix-blocks N S
 startPrefix-blocks (keyed K S) =
@@ -62,9 +62,9 @@ fed-after-prefix {f} c =
 
 -- key, message and encoded number can be told apart
 pub kmacMessage-fixes : (K X K′ X′ : List ℕ) (L L′ : ℕ)
-    → bytepad (encodeString K) 136 ++ X ++ rightEncode L ≡ bytepad (encodeString K′) 136 ++ X′ ++ rightEncode L′
+    → bytepad (encodeString K) rate ++ X ++ rightEncode L ≡ bytepad (encodeString K′) rate ++ X′ ++ rightEncode L′
     → (K ≡ K′) × (X ≡ X′) × (L ≡ L′)
 kmacMessage-fixes K X K′ X′ L L′ e =
-    let r = rightEncode-free L L′ (bytepad (encodeString K) 136 ++ X) (bytepad (encodeString K′) 136 ++ X′) e in
-    let s = bytepad-free encodeString 136 encodeString-free K K′ X X′ (r .1) in
+    let r = rightEncode-free L L′ (bytepad (encodeString K) rate ++ X) (bytepad (encodeString K′) rate ++ X′) e in
+    let s = bytepad-free encodeString rate encodeString-free K K′ X X′ (r .1) in
     (s .0, s .1, r .0)

@@ -7,7 +7,7 @@ use native.Mathlib.Omega.{arith}
 use borrow.Author.Tests.{ne-eqb}
 use lib.Dec.{eqb}
 use lib.ListN.{length}
-use Rattle.encode.specs.Padding.{padded}
+use Rattle.encode.specs.Padding.{rate, padded}
 use Rattle.encode.specs.Encode.{encodeString, bytepad}
 use Rattle.encode.specs.Laws.Codes.{PrefixFree, then}
 use Rattle.encode.specs.Laws.Encode.{encodeString-free, bytepad-free}
@@ -27,22 +27,22 @@ isShake-lengths [] (x ∷ S) = sym (ne-eqb (0 + suc (length S)) 0 (λ z. omega a
 isShake-lengths (x ∷ N) S = sym (ne-eqb (suc (length N) + length S) 0 (λ z. omega arith))
 
 -- name and customisation
-pub prefix-free : PrefixFree {A = List ℕ × List ℕ} (λ p. bytepad (encodeString (p .0) ++ encodeString (p .1)) 136)
+pub prefix-free : PrefixFree {A = List ℕ × List ℕ} (λ p. bytepad (encodeString (p .0) ++ encodeString (p .1)) rate)
 prefix-free =
-    bytepad-free (λ p. encodeString (p .0) ++ encodeString (p .1)) 136
+    bytepad-free (λ p. encodeString (p .0) ++ encodeString (p .1)) rate
     (then encodeString encodeString-free encodeString encodeString-free)
 
 -- the prefix is whole blocks
-pub cshakePrefix-blocks : (N S : List ℕ) → length (cshakePrefix N S) % 136 ≡ 0
+pub cshakePrefix-blocks : (N S : List ℕ) → length (cshakePrefix N S) % rate ≡ 0
 cshakePrefix-blocks N S = go (isShake N S)
   where
-    go : (t : Bool) → length (cond t [] (bytepad (encodeString N ++ encodeString S) 136)) % 136 ≡ 0
+    go : (t : Bool) → length (cond t [] (bytepad (encodeString N ++ encodeString S) rate)) % rate ≡ 0
     go true = refl
     go false = bytepad-blocks (encodeString N ++ encodeString S)
 
 -- the bytes that are padded, where t says whether it is SHAKE256
 abbrev unpadded : Bool → Input → List ℕ
-unpadded t i = cond t [] (bytepad (encodeString (i .name) ++ encodeString (i .customisation)) 136) ++ i .message
+unpadded t i = cond t [] (bytepad (encodeString (i .name) ++ encodeString (i .customisation)) rate) ++ i .message
 
 pub fedBytes-fixes : (i j : Input) → fedBytes i ≡ fedBytes j → i ≡ j
 unfolding fedBytes

@@ -8,7 +8,7 @@ use lib.Dec.{eqb}
 use lib.ListN.{length, length-append}
 use Rattle.encode.specs.Digits.{width, widthIn}
 use Rattle.encode.specs.Encode.{encodeString, rightEncode, bytepad, KMAC}
-use Rattle.encode.specs.Padding.{blocks}
+use Rattle.encode.specs.Padding.{rate, blocks}
 use Rattle.encode.specs.Laws.Lengths.{stringLength, length-encodeString, length-rightEncode, length-bytepad, length-padded}
 use Rattle.calls.specs.Input.{cshakePrefix}
 use Rattle.calls.specs.Start.{Start, named, keyed, startPrefix}
@@ -26,16 +26,16 @@ abbrev pub startBlocks : Start → ℕ
 startBlocks (named N S) = cshakeBlocks (length N) (length S)
 startBlocks (keyed K S) = cshakeBlocks 4 (length S) + blocks (stringLength (length K) + 2)
 
-length-cshakePrefix : (N S : List ℕ) → length (cshakePrefix N S) ≡ cshakeBlocks (length N) (length S) * 136
+length-cshakePrefix : (N S : List ℕ) → length (cshakePrefix N S) ≡ cshakeBlocks (length N) (length S) * rate
 length-cshakePrefix N S = rw isShake-lengths (go (eqb (length N + length S) 0))
   where
     go : (t : Bool)
-        → length (cond t [] (bytepad (encodeString N ++ encodeString S) 136))
-        ≡ cond t 0 (blocks (stringLength (length N) + stringLength (length S) + 2)) * 136
+        → length (cond t [] (bytepad (encodeString N ++ encodeString S) rate))
+        ≡ cond t 0 (blocks (stringLength (length N) + stringLength (length S) + 2)) * rate
     go true = refl
     go false = simp (length-bytepad, length-append, length-encodeString)
 
-pub length-startPrefix : (s : Start) → length (startPrefix s) ≡ startBlocks s * 136
+pub length-startPrefix : (s : Start) → length (startPrefix s) ≡ startBlocks s * rate
 unfolding startPrefix
 length-startPrefix (named N S) = length-cshakePrefix N S
 length-startPrefix (keyed K S) =
@@ -54,7 +54,7 @@ length-ending KMAC256 n = length-rightEncode (8 * n)
 length-ending KMACXOF256 n = length-rightEncode 0
 
 pub runs-by-lengths : {f : Function} (c : Call f)
-    → runs c ≡ startBlocks (startOf c) + (length (messageOf c) + endingLength f (outputBytes c)) / 136 + 1 + outputRuns (outputBytes c)
+    → runs c ≡ startBlocks (startOf c) + (length (messageOf c) + endingLength f (outputBytes c)) / rate + 1 + outputRuns (outputBytes c)
 unfolding runs
 runs-by-lengths {f} c =
     rw (fed-parts c, length-padded)

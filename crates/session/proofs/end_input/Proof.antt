@@ -3,7 +3,7 @@ use mathlib.Core.Path.{_≡_, ap, _∙_}
 use Prim.Native.Nat.{_%_}
 use native.Mathlib.Nat.{mod-eq-of-lt}
 use borrow.Author.Needs.{needs}
-use Rattle.encode.specs.Facts.{facts}
+use Rattle.encode.proofs.Facts.{facts}
 use Rattle.sponge.specs.Running.{Running, running, absorbed, finished}
 use Rattle.session.specs.Session.{inputEnd}
 use Rattle.session.proofs.end_input.Statement.{statement}

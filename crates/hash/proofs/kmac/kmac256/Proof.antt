@@ -1,22 +1,18 @@
 -- The number is the start's own, 5 or 6, the first that applies; past it `run` does the call (`Answers`).
 -- What `run` is handed as the ending is right_encode of the output's bits, wherever the call is accepted.
-use mathlib.Core.Path.{_≡_, refl, ap, ap₂, _∙_}
+use mathlib.Core.Path.{_≡_, refl, ap, _∙_}
 use Prim.Native.Nat.{ℕ, _*_, _≤_}
 use native.Mathlib.Omega.{arith}
 use borrow.Author.Needs.{needs}
 use borrow.Author.Tests.{le-ltb}
 use mathlib.Core.List.{List}
-use mathlib.Core.Bool.{cond}
-use lib.Dec.{eqb}
 use lib.ListN.{length, take}
-use Rattle.answers.specs.Numbers.{done, badOutputLength}
-use Rattle.answers.specs.Done.{firstOf, over}
 use Rattle.encode.specs.Encode.{rightEncode}
 use Rattle.encode.specs.Laws.Answer.{answers-code, answers-take}
 use Rattle.calls.specs.Limits.{maxOutput}
-use Rattle.calls.specs.Call.{Call, KMAC256, kmac256, messageRefusal, refusal}
+use Rattle.calls.specs.Call.{Call, KMAC256, kmac256, refusal}
 use Rattle.calls.specs.Laws.Refusal.{output-accepted}
-use Rattle.hash.proofs.Answers.{chain, numbered, output-fits, answered}
+use Rattle.hash.proofs.Answers.{numbered, output-fits, answered}
 use Rattle.hash.proofs.kmac.kmac256.Statement.{statement}
 use Rattle.hash.proofs.kmac.kmac256.Tie as tie
 
@@ -32,34 +28,26 @@ returns c =
     let run = c .before .before in
     let coded = run .before .before .before .before in
     let bits = coded .before in
-    let first = bits .before in
-    let number = first .before .before in
+    let number = bits .before in
     let started = number .before .start-keyed in
     let s = number .before .before .before .before .before .before in
     let X = s .args .message .now in
     let before = s .args .out .now in
     let code = coded .right-encode in
     let e : List ℕ = take (code .result .len) (code .result .bytes) in
-    let n =
-    first .first-of .ensures
-    ∙ ap₂ firstOf (number .first-refusal .ensures) (first .before .empty .ensures)
-    ∙ chain (started .result .number) (messageRefusal (length X)) (over (length before) maxOutput badOutputLength)
-    (cond (eqb (length before) 0) badOutputLength done)
-    ∙ numbered (call s) (started .result) (started .ensures) in
+    let n = number .kmac256-refusal .ensures ∙ numbered (call s) (started .result) (started .ensures) in
     let is : refusal (call s) ≡ 0 → e ≡ rightEncode (8 * length before)
     = λ ok.
     let fits : length before ≤ maxOutput = output-fits KMAC256 (length before) (output-accepted (call s) ok) in
     answers-code (code .ensures) ∙ ap rightEncode (bits .output-bits .ensures ∙ simp (le-ltb _ _ fits)) in
     let short : length e ≤ 9 = omega (arith, code .ensures .fits, answers-take (code .ensures)) in
     answered (call s) (started .result) e (started .ensures) is short
-    (first .first-of .result) before (run .run .last .1 .1 .1 .1 .0) (run .run .result) n refl (run .run .ensures)
+    (number .kmac256-refusal .result) before (run .run .last .1 .1 .1 .1 .0) (run .run .result) n refl (run .run .ensures)
 
 pub kmac256-spec : {M : Type 1} → statement M
 kmac256-spec =
     tie.close
     (tie.spec
-    (λ c κs. search needs)
-    (λ c κs. search needs)
     (λ c κs. search needs)
     (λ c κs. search needs)
     (λ c κs. search needs)

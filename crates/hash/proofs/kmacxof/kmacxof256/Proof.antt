@@ -23,9 +23,9 @@ returns c =
     let first = run .before .before .before in
     let started = first .before .start-keyed in
     let s = first .before .before .before .before .before .before in
-    let n = first .first-refusal .ensures ∙ numbered (call s) (started .result) (started .ensures) in
+    let n = first .extendable-refusal .ensures ∙ numbered (call s) (started .result) (started .ensures) in
     answered (call s) (started .result) (0 ∷ 1 ∷ []) (started .ensures) (λ ok. refl) (omega arith)
-    (first .first-refusal .result) (s .args .out .now) (run .run .last .1 .1 .1 .1 .0) (run .run .result) n refl (run .run .ensures)
+    (first .extendable-refusal .result) (s .args .out .now) (run .run .last .1 .1 .1 .1 .0) (run .run .result) n refl (run .run .ensures)
 
 pub kmacxof256-spec : {M : Type 1} → statement M
 kmacxof256-spec =

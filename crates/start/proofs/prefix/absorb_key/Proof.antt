@@ -1,4 +1,4 @@
--- left_encode(136), the encoded key and zeros are bytepad of the key (`Strings.padded-lanes`).
+-- left_encode of the rate, the encoded key and zeros are bytepad of the key (`Strings.padded-lanes`).
 use mathlib.Core.Path.{_≡_}
 use native.Mathlib.Omega.{arith}
 use borrow.Author.Needs.{needs}
@@ -9,9 +9,11 @@ use Rattle.start.proofs.prefix.absorb_key.Tie as tie
 
 returns : tie.Need-returns
 returns c =
-    let a = c .before .before .before .before .before .before .before .before .args in
-    let string = c .before .before .absorb-string in
-    let first = c .before .before .before .before .absorb in
+    let keyed = c .before .before in
+    let begun = keyed .before .before in
+    let a = begun .before .before .before .before .args in
+    let string = keyed .absorb-string in
+    let first = begun .absorb in
     let lanes = a .lanes .now in
     let x = encodeString (a .key .now) in
     record {
@@ -27,4 +29,4 @@ returns c =
 pub absorb-key-spec : {M : Type 1} → statement M
 absorb-key-spec =
     tie.close
-    (tie.spec (λ c. search needs) (λ c κs. search needs) (λ c κs. search needs) (λ c κs. search needs) (λ c. search needs) returns)
+    (tie.spec (λ c. search needs) (λ c κs. search needs) (λ c κs. search needs) (λ c κs. search needs) (λ c. search needs) (λ c. search needs) returns)

@@ -19,9 +19,9 @@ slice-aggregate-absorb c =
 
 returns : tie.Need-returns
 returns c =
-    let s = c .before .before .before .before .before .before .before .before in
-    let a = s .args in
-    let code = c .before .before .before .before .before .before .left-encode in
+    let coded = c .before .before .before .before .before .before in
+    let a = coded .before .before .args in
+    let code = coded .left-encode in
     let first = c .before .before .absorb in
     let n : code .result .len ≡ length (leftEncode (8 * length (a .s .now))) = answers-length (code .ensures) in (
       omega (arith, length-encodeString (a .s .now), length-leftEncode (8 * length (a .s .now))),

@@ -1,4 +1,4 @@
--- Laws that demand 3 is made of. The function is read off the fed bytes, so no pair of functions is compared: a further function is a clause in each
+-- Demand 3 of the three functions. The function is read off the fed bytes, so no pair of functions is compared: a further function is a clause in each
 -- definition and law that goes by `Function` or `Call`.
 use mathlib.Core.Path.{_≡_, refl, ap, _∙_, sym, pathJ}
 use mathlib.Core.Bool.{cond}
@@ -17,6 +17,7 @@ use Rattle.answers.specs.Laws.{test-passed, firstOf-passed}
 use Rattle.calls.specs.Start.{sameBytes, startRefusal}
 use Rattle.calls.specs.Call.{Function, cSHAKE256, KMAC256, KMACXOF256, Call, cshake256, kmac256, kmacxof256, Accepted, kmacInput, input, fed}
 use Rattle.calls.specs.Arguments.{Arguments, arguments}
+use Rattle.calls.specs.FedAlike.{FedAlikeExactly}
 use Rattle.calls.specs.Laws.Refusal.{start-accepted, output-accepted}
 use Rattle.calls.specs.Laws.Input.{fedBytes-fixes}
 use Rattle.calls.specs.Laws.Fed.{kmacMessage-fixes}
@@ -60,14 +61,17 @@ inputBy-arguments (cshake256 X n N S) = refl
 inputBy-arguments (kmac256 K X n S) = refl
 inputBy-arguments (kmacxof256 K X n S) = refl
 
-pub alike-arguments : {f g : Function} (a : Call f) (b : Call g) → Accepted a → Accepted b → fed a ≡ fed b → arguments a ≡ arguments b
+alike-arguments : {f g : Function} (a : Call f) (b : Call g) → Accepted a → Accepted b → fed a ≡ fed b → arguments a ≡ arguments b
 unfolding fed
 alike-arguments {f} {g} a b ha hb e =
     let i : input a ≡ input b = fedBytes-fixes (input a) (input b) e in
     let p : f ≡ g = sym (functionOf-input a ha) ∙ ap functionOf i ∙ functionOf-input b hb in
     pathJ (λ h q. (c : Call h) → input a ≡ input c → arguments a ≡ arguments c) (input-fixes a) p b i
 
-pub arguments-alike : {f g : Function} (a : Call f) (b : Call g) → arguments a ≡ arguments b → fed a ≡ fed b
+arguments-alike : {f g : Function} (a : Call f) (b : Call g) → arguments a ≡ arguments b → fed a ≡ fed b
 unfolding fed
 arguments-alike a b e =
     ap fedBytes (inputBy-arguments a ∙ ap (λ (t : Arguments). inputBy (t .function) t) e ∙ sym (inputBy-arguments b))
+
+pub fed-alike : FedAlikeExactly
+fed-alike f g a b ha hb = (alike-arguments a b ha hb, arguments-alike a b)

@@ -1,8 +1,8 @@
 -- The output is empty or it is not: the definition asks the same.
 -- Each arm is the definition's arm for that case.
 use borrow.Author.Tests.{eq-eqb, ne-eqb}
-use Rattle.hash.proofs.kmac.empty.Statement.{statement}
-use Rattle.hash.proofs.kmac.empty.Tie as tie
+use Rattle.refusals.proofs.empty.Statement.{statement}
+use Rattle.refusals.proofs.empty.Tie as tie
 
 returns : tie.Need-returns
 returns c = rw (eq-eqb _ _ (c .if1 .taken))

@@ -3,9 +3,9 @@
 use mathlib.Core.Path.{sym, _∙_}
 use borrow.Author.Needs.{needs}
 use Rattle.encode.specs.Encode.{KMAC}
 use Rattle.calls.specs.Laws.Refusal.{sameBytes-is}
-use Rattle.calls.proofs.reserved.Statement.{statement}
-use Rattle.calls.proofs.reserved.Tie as tie
+use Rattle.refusals.proofs.reserved.Statement.{statement}
+use Rattle.refusals.proofs.reserved.Tie as tie
 
 returns : tie.Need-returns
 returns c = let s = c .before .same in simp (sym (sameBytes-is (s .result) _ KMAC (s .ensures)) ∙ c .if1 .taken)

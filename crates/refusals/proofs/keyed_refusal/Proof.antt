@@ -1,9 +1,9 @@
 -- The tests are the table's, chained in its order.
 -- Each call has its own equation, and their composition is the definition.
 use borrow.Author.Needs.{needs}
 use Rattle.calls.specs.Start.{startRefusal}
-use Rattle.calls.proofs.keyed_refusal.Statement.{statement}
-use Rattle.calls.proofs.keyed_refusal.Tie as tie
+use Rattle.refusals.proofs.keyed_refusal.Statement.{statement}
+use Rattle.refusals.proofs.keyed_refusal.Tie as tie
 
 returns : tie.Need-returns
 unfolding startRefusal
