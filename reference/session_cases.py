@@ -1,123 +1,126 @@
-"""Prints how running sessions answer (docs/RULES.md): one message cut in many ways, and refusals in every phase.
+"""Cases of running sessions: one message cut in many ways, refusals in every phase, and the totals of 16,777,216 bytes.
 
-A cut message has one answer; a line says how many ways to cut gave it. Refusals are lines of numbers in the order of the calls. The two totals of
-16,777,216 bytes are SHAKE256's, whose bytes are taken from hashlib: this reference would run the permutation 123,362 times for each.
+Each call's number, and each ask's bytes as they then stand in the lent buffer, go into the checksum; the answer in one piece and one portion is written out.
+The totals are SHAKE256's, whose bytes are taken from hashlib: this reference would run the permutation 123,362 times for each.
 """
 
 import hashlib
 
+from hash_cases import pattern
 from refusals import MESSAGE_LIMIT, OUTPUT_LIMIT
 from sessions import give, start_cshake256, start_kmacxof256, take
 
-MESSAGE = bytes((3 + 7 * i) % 256 for i in range(409))
+MESSAGE = pattern(3, 7, 409)
 OUTPUT = 300
 SIZES = (1, 2, 3, 7, 67, 135, 136, 137, 271, 272, 273, 408, 409)
 LONG = bytes(4097)
+PART = 65536
 
 
-def print_cuts(label, session):
-    """The answer in one piece and one portion, then how many ways to cut gave the same."""
-    answer = in_portions(take(session, MESSAGE)[1], OUTPUT)
-    cuts = sum(in_portions(cut_in_two(session, cut), OUTPUT) == answer for cut in range(len(MESSAGE) + 1))
-    sizes = (f" {n}" if in_portions(in_pieces(session, n), n) == answer else f" {n} differs" for n in SIZES)
-    print(label)
-    print(answer.hex())
-    print(f"cut in two: {cuts} alike")
-    print(f"pieces and portions:{''.join(sizes)}")
+class Run:
+    """A session and its calls, each put among the cases."""
+
+    def __init__(self, cases):
+        self.cases, self.session = cases, None
+
+    def start(self, letter, named, custom):
+        self.cases.put("session", letter, strings=(named, custom))
+        number, self.session = (start_cshake256 if letter == "n" else start_kmacxof256)(named, custom)
+        self.cases.add((number,))
+        return self
+
+    def take(self, piece):
+        self.cases.put("session", "t", strings=(piece,))
+        number, self.session = take(self.session, piece)
+        self.cases.add((number,))
+        return self
+
+    def give(self, length, shown=False):
+        self.cases.put("session", "G" if shown else "g", length)
+        number, given, self.session = give(self.session, length)
+        return self.gave(number, b"\xa5" * length if given is None else given, shown)
+
+    def gave(self, number, lent, shown=False):
+        """What the lent bytes then hold, and the number."""
+        if shown:
+            self.cases.answer("session", number, 0, lent)
+        self.cases.add(lent)
+        self.cases.add((number,))
+        return self
 
 
-def cut_in_two(session, cut):
-    """The session after the message in two pieces."""
-    return take(take(session, MESSAGE[:cut])[1], MESSAGE[cut:])[1]
+def whole(cases, start):
+    """In one piece and one portion."""
+    Run(cases).start(*start).take(MESSAGE).give(OUTPUT, shown=True)
+    cases.end("session")
 
 
-def in_pieces(session, size):
-    """The session after the message in pieces of this size, each after an empty one."""
+def in_two(cases, start):
+    for cut in range(len(MESSAGE) + 1):
+        Run(cases).start(*start).take(MESSAGE[:cut]).take(MESSAGE[cut:]).give(OUTPUT)
+    cases.end("session")
+
+
+def in_parts(cases, start, size):
+    """In pieces and portions of this size, from a block's half on each after an empty one."""
+    run, empties = Run(cases).start(*start), size >= 67
     for at in range(0, len(MESSAGE), size):
-        session = take(take(session, b"")[1], MESSAGE[at : at + size])[1]
-    return session
+        run = run.take(b"") if empties else run
+        run.take(MESSAGE[at : at + size])
+    for at in range(0, OUTPUT, size):
+        run = run.give(0) if empties else run
+        run.give(min(size, OUTPUT - at))
+    cases.end("session")
 
 
-def in_portions(session, size):
-    """The output in portions of this size, each after an empty one, joined."""
-    output = b""
-    while len(output) < OUTPUT:
-        _, _, session = give(session, 0)
-        _, portion, session = give(session, min(size, OUTPUT - len(output)))
-        output += portion
-    return output
+def cuts(cases):
+    starts = {"SHAKE256": ("n", b"", b""), "cSHAKE256": ("n", b"sorter", b"line 12, chute 3")}
+    starts["KMACXOF256"] = ("k", b"a key of the night shift", b"line 1, chute 23")
+    for name, start in starts.items():
+        cases.heading("session", f"{name}: whole, cut in two, in parts of {', '.join(map(str, SIZES))} bytes")
+        whole(cases, start)
+        in_two(cases, start)
+        for size in SIZES:
+            in_parts(cases, start, size)
 
 
-def calls(session, *asked):
-    """The numbers and the joined output of calls in a row: bytes are taken, a number of bytes is asked for."""
-    numbers, output = [], b""
-    for call in asked:
-        if isinstance(call, bytes):
-            number, session = take(session, call)
-        else:
-            number, given, session = give(session, call)
-            output += given or b""
-        numbers.append(str(number))
-    return " ".join(numbers), output
+def refused(cases):
+    """A start that is refused, and five calls: an empty piece, a byte, no byte asked for, an empty piece again, a byte asked for."""
+    cases.heading("session", "refused starts")
+    for start in (
+        ("k", LONG, b""), ("k", LONG, LONG), ("k", b"", LONG), ("n", LONG, b""), ("n", b"", LONG), ("n", b"KMAC", LONG), ("n", b"KMAC", b""),
+    ):
+        Run(cases).start(*start).take(b"").take(b"x").give(0).take(b"").give(1, shown=True)
+        cases.end("session")
+    cases.heading("session", "accepted starts")
+    for start in (("n", LONG[:4096], LONG[:4096]), ("k", LONG[:4096], LONG[:4096]), ("n", b"kmac", b""), ("n", b"KMAC ", b"")):
+        Run(cases).start(*start).give(32, shown=True)
+        cases.end("session")
+    cases.heading("session", "turned by an ask for no bytes")
+    for start in (("n", b"sorter", b""), ("k", b"key", b"")):
+        Run(cases).start(*start).take(b"abc").give(0).take(b"").take(b"d").give(5, shown=True).take(b"d").give(200, shown=True)
+        cases.end("session")
 
 
-def print_unstarted(label, start):
-    """A refused start and five calls; the lent byte aa stays."""
-    number, session = start
-    numbers, _ = calls(session, b"", b"x", 0, b"", 1)
-    print(label, number, numbers, "aa")
+def limits(cases):
+    """The totals in 256 parts, and one byte more."""
+    cases.heading("session", "16777216 bytes taken, and given")
+    run = Run(cases).start("n", b"", b"")
+    for _ in range(MESSAGE_LIMIT // PART):
+        run.take(bytes(PART))
+    run.take(b"x").take(b"")
+    cases.put("session", "G", 32)
+    run.gave(0, hashlib.shake_256(bytes(MESSAGE_LIMIT)).digest(32), shown=True)
+    cases.end("session")
+    run, given = Run(cases).start("n", b"", b""), hashlib.shake_256(b"").digest(OUTPUT_LIMIT)
+    for at in range(0, OUTPUT_LIMIT, PART):
+        cases.put("session", "g", PART)
+        run.gave(0, given[at : at + PART])
+    run.session = run.session._replace(giving=True, given=OUTPUT_LIMIT)
+    run.give(1, shown=True).give(0).take(b"")
+    cases.end("session")
 
 
-def print_started(label, start):
-    """An accepted start, and 32 bytes given before any piece."""
-    number, session = start
-    print(label, number, give(session, 32)[1].hex())
-
-
-def print_turned(label, session):
-    """An ask for no bytes turns the session; refused pieces count for nothing."""
-    numbers, output = calls(session, b"abc", 0, b"", b"d", 5, b"d", 200)
-    print(label, numbers, output[:5].hex())
-    print(output[5:].hex())
-
-
-def print_limits():
-    """One byte over each total; the bytes are hashlib's."""
-    _, session = start_cshake256(b"", b"")
-    part = b"\x5a" * 65536
-    for _ in range(256):
-        _, session = take(session, part)
-    numbers, _ = calls(session, b"x", b"")
-    output = hashlib.shake_256(b"\x5a" * MESSAGE_LIMIT).hexdigest(32)
-    print("16777216 bytes taken:", numbers, output)
-    _, session = start_cshake256(b"", b"")
-    numbers, _ = calls(session._replace(giving=True, given=OUTPUT_LIMIT), 1, 0, b"")
-    print("16777216 bytes given:", numbers, "aa")
-    print(hashlib.shake_256(b"").digest(OUTPUT_LIMIT)[-32:].hex())
-
-
-def main():
-    print_cuts("SHAKE256", start_cshake256(b"", b"")[1])
-    print_cuts("cSHAKE256", start_cshake256(b"sorter", b"line 12, chute 3")[1])
-    print_cuts("KMACXOF256", start_kmacxof256(b"a key of the night shift", b"line 1, chute 23")[1])
-    print("refused starts")
-    print_unstarted("key 4097", start_kmacxof256(LONG, b""))
-    print_unstarted("key and customisation 4097", start_kmacxof256(LONG, LONG))
-    print_unstarted("keyed customisation 4097", start_kmacxof256(b"", LONG))
-    print_unstarted("name 4097", start_cshake256(LONG, b""))
-    print_unstarted("customisation 4097", start_cshake256(b"", LONG))
-    print_unstarted("name KMAC, customisation 4097", start_cshake256(b"KMAC", LONG))
-    print_unstarted("name KMAC", start_cshake256(b"KMAC", b""))
-    print("accepted starts")
-    print_started("name and customisation 4096", start_cshake256(LONG[:4096], LONG[:4096]))
-    print_started("key and customisation 4096", start_kmacxof256(LONG[:4096], LONG[:4096]))
-    print_started("name kmac", start_cshake256(b"kmac", b""))
-    print_started("name KMAC and a blank", start_cshake256(b"KMAC ", b""))
-    print("turned by an ask for no bytes")
-    print_turned("cSHAKE256", start_cshake256(b"sorter", b"")[1])
-    print_turned("KMACXOF256", start_kmacxof256(b"key", b"")[1])
-    print_limits()
-
-
-if __name__ == "__main__":
-    main()
+def add(cases):
+    for section in (cuts, refused, limits):
+        section(cases)

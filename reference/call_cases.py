@@ -1,0 +1,118 @@
+#!/usr/bin/env python3
+"""The cases of the program call_cases and what it must write for them, worked out by the rules of docs/RULES.md alone.
+
+    python3 reference/call_cases.py --input > crates/call_cases/stdin    the cases, in the form that crates/call_cases/src/main.rt says
+    python3 reference/call_cases.py         > crates/call_cases/stdout   what they are answered with; stops if the cases there are not these
+"""
+import sys
+from pathlib import Path
+
+import generator_cases
+import hash_cases
+import seal_cases
+import session_cases
+
+MODULUS = 2**32 - 5
+SECTIONS = (hash_cases, seal_cases, session_cases, generator_cases)
+STDIN = Path(__file__).resolve().parent.parent / "crates/call_cases/stdin"
+BLOCK = 393_216  # the program's buffer
+
+
+class Block:
+    """The cases of some families, and the bytes of their strings, which may be shared."""
+
+    def __init__(self, families, strings):
+        self.cases, self.strings = {family: [] for family in families}, strings
+        self.data, self.places = bytearray(), {}
+
+    def place(self, string):
+        """Where a string's bytes stand among those of all strings."""
+        if string not in self.places:
+            at = self.data.find(string)
+            if at < 0:
+                at = len(self.data)
+                self.data += string
+            self.places[string] = at
+        return self.places[string]
+
+    def words(self, case, base):
+        """A word and the strings of a case; of four strings, a word more."""
+        letter, out, tag, strings = case
+        words = [out]
+        for place, length in strings + [(0, 0)] * (self.strings - len(strings)):
+            words += [base + place, length]
+        words += [tag] if self.strings == 4 else []
+        return letter.encode() + in_words(words)
+
+    def made(self):
+        every = [case for cases in self.cases.values() for case in cases]
+        counts = in_words(len(cases) for cases in self.cases.values())
+        base = len(counts) + sum(len(self.words(case, 0)) for case in every)
+        return counts + b"".join(self.words(case, base) for case in every) + bytes(self.data)
+
+
+def in_words(numbers):
+    return b"".join(number.to_bytes(4, "little") for number in numbers)
+
+
+class Cases:
+    """The cases of the three families, each with what it writes: calls that keep no state, sessions, and the generator."""
+
+    def __init__(self):
+        self.blocks = (Block(("single",), 4), Block(("session", "generator"), 2))
+        self.output = {family: [] for block in self.blocks for family in block.cases}
+        self.total = 0
+
+    def put(self, family, letter, out=0, tag=0, strings=(), behind=b""):
+        """A case: its letter, two words, and its strings, the last of which has `behind` after it."""
+        (block,) = (block for block in self.blocks if family in block.cases)
+        last = len(strings) - 1
+        placed = [(block.place(string + behind if i == last else string), len(string)) for i, string in enumerate(strings)]
+        block.cases[family].append((letter, out, tag, placed))
+
+    def write(self, family, line):
+        self.output[family].append(line + "\n")
+
+    def heading(self, family, text):
+        self.put(family, "h", strings=[text.encode()])
+        self.write(family, text)
+        self.total = 0
+
+    def end(self, family):
+        """The checksum, which begins anew."""
+        self.put(family, "e")
+        self.write(family, str(self.total))
+        self.total = 0
+
+    def add(self, numbers):
+        """The checksum taken on by numbers, one after the other."""
+        total = self.total
+        for number in numbers:
+            total = (total * 257 + number + 1) % MODULUS
+        self.total = total
+
+    def answer(self, family, number, runs, output):
+        """A line with number, runs and bytes."""
+        self.write(family, f"{number} {runs} {output.hex()}")
+
+    def input(self):
+        first, second = (block.made() for block in self.blocks)
+        assert max(len(first), len(second)) <= BLOCK
+        return first + bytes(BLOCK - len(first)) + second
+
+
+def main(arguments):
+    cases = Cases()
+    for section in SECTIONS:
+        section.add(cases)
+    made = cases.input()
+    if arguments == ["--input"]:
+        sys.stdout.buffer.write(made)
+    elif STDIN.read_bytes() != made:
+        sys.exit("crates/call_cases/stdin has other cases: python3 reference/call_cases.py --input writes it")
+    else:
+        sys.stdout.write("".join(line for lines in cases.output.values() for line in lines))
+
+
+if __name__ == "__main__":
+    main(sys.argv[1:])
