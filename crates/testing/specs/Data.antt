@@ -1,6 +1,6 @@
--- Patterned bytes, and the checksum that the gate's programs print instead of long outputs: a polynomial at 257 modulo 2^32 - 5.
+-- Numbers in bytes, and the checksum that the gate's programs print instead of long outputs: a polynomial at 257 modulo 2^32 - 5.
 use mathlib.Core.List.{List, [], _∷_}
-use Prim.Native.Nat.{ℕ, zero, suc, _+_, _*_, _%_}
+use Prim.Native.Nat.{ℕ, _+_, _*_, _%_}
 use lib.ListN.{getD, drop}
 
 abbrev pub modulus : ℕ
@@ -13,11 +13,6 @@ addNumber s n = (s % modulus * 257 + n % modulus + 1) % modulus
 unfoldable pub addBytes : ℕ → List ℕ → ℕ
 addBytes s [] = s
 addBytes s (b ∷ bs) = addBytes (addNumber s b) bs
-
--- n bytes: v, v + step, v + 2 step, .. modulo 256
-unfoldable pub pattern : ℕ → ℕ → ℕ → List ℕ
-pattern zero v step = []
-pattern (suc n) v step = v % 256 ∷ pattern n ((v + step) % 256) step
 
 -- the numbers that the first two and the first four bytes make, lowest byte first
 abbrev pub halfOf : List ℕ → ℕ

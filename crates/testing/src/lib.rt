@@ -1,27 +1,13 @@
-// What the gate's programs share: patterned data, parts of a slice and numbers in it, a checksum, and printing.
+// What the gate's programs share: parts of a slice and numbers in it, a checksum, and printing.
 ghost use mathlib.Core.Path.{_≡_};
-ghost use lib.ListN.{length, take, drop, getD};
-ghost use lib.Seq.{sets};
-ghost use Rattle.testing.specs.Data.{addNumber, addBytes, pattern, halfOf, wordOf};
+ghost use lib.ListN.{take, drop, getD};
+ghost use Rattle.testing.specs.Data.{addNumber, addBytes, halfOf, wordOf};
 use libc::STDOUT_FILENO;
 
 fn wide(byte: u8) -> u64
     ensures { λ r. ⌜ r ≡ byte ⌝ }
 {
     byte as u64
-}
-
-// `bytes` filled with first, first + step, first + 2 step, .. modulo 256.
-pub fn fill(bytes: &mut [u8], first: u8, step: u8)
-    ensures { λ r. ⌜ now (bytes .exit) ≡ sets (now (bytes .entry)) 0 (pattern (length (now (bytes .entry))) first step) ⌝ }
-{
-    let mut next = wide(first);
-    let mut i = 0;
-    while i < bytes.len() {
-        bytes[i] = (next % 256) as u8;
-        next = (next + wide(step)) % 256;
-        i += 1;
-    }
 }
 
 // The first n bytes, or all where there are fewer.
