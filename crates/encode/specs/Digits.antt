@@ -10,9 +10,9 @@ digits b zero n = []
 digits b (suc k) n = n % b ∷ digits b k (n / b)
 
 -- the number whose digits these are
-abbrev pub value : ℕ → List ℕ → ℕ
-value b [] = 0
-value b (d ∷ ds) = value b ds * b + d
+abbrev pub numberOf : ℕ → List ℕ → ℕ
+numberOf b [] = 0
+numberOf b (d ∷ ds) = numberOf b ds * b + d
 
 -- the fewest digits, at least one, that hold n, found in at most `steps` divisions
 unfoldable pub widthIn : ℕ → ℕ → ℕ → ℕ

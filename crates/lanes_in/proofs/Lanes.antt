@@ -11,24 +11,24 @@ use lib.Seq.{set-getD, getD-drop, take-add, drop-drop, length-take-le}
 use Rattle.fips202.specs.Bytes.{xorByte, xorBytes}
 use Rattle.fips202.specs.Laws.Xor.{xor-assoc, xor-scale}
 use Rattle.fips202.specs.Laws.Bytes.{upd-upd, xorBytes-append}
-use Rattle.encode.specs.Digits.{value}
+use Rattle.encode.specs.Digits.{numberOf}
 
 -- ---- reading
 
-value-append : (xs ys : List ℕ) → value 256 (xs ++ ys) ≡ value 256 xs + 2 ^ (8 * length xs) * value 256 ys
-value-append [] ys = omega arith
-value-append (x ∷ xs) ys =
+numberOf-append : (xs ys : List ℕ) → numberOf 256 (xs ++ ys) ≡ numberOf 256 xs + 2 ^ (8 * length xs) * numberOf 256 ys
+numberOf-append [] ys = omega arith
+numberOf-append (x ∷ xs) ys =
     let e : 8 * suc (length xs) ≡ 8 + 8 * length xs = omega arith in
-    let m : 2 ^ (8 * suc (length xs)) * value 256 ys ≡ 256 * (2 ^ (8 * length xs) * value 256 ys)
-    = ap (λ (k : ℕ). 2 ^ k * value 256 ys) e ∙ ap (λ (k : ℕ). k * value 256 ys) (pow-add 2 8 (8 * length xs))
-    ∙ mul-assoc 256 (2 ^ (8 * length xs)) (value 256 ys) in
-    omega (arith, value-append xs ys, m)
+    let m : 2 ^ (8 * suc (length xs)) * numberOf 256 ys ≡ 256 * (2 ^ (8 * length xs) * numberOf 256 ys)
+    = ap (λ (k : ℕ). 2 ^ k * numberOf 256 ys) e ∙ ap (λ (k : ℕ). k * numberOf 256 ys) (pow-add 2 8 (8 * length xs))
+    ∙ mul-assoc 256 (2 ^ (8 * length xs)) (numberOf 256 ys) in
+    omega (arith, numberOf-append xs ys, m)
 
-pub value-one : (at : ℕ) (s : List ℕ) → value 256 (take 1 (drop at s)) ≡ getD s at 0
-value-one zero [] = refl
-value-one (suc at) [] = refl
-value-one zero (x ∷ s) = omega arith
-value-one (suc at) (x ∷ s) = value-one at s
+pub numberOf-one : (at : ℕ) (s : List ℕ) → numberOf 256 (take 1 (drop at s)) ≡ getD s at 0
+numberOf-one zero [] = refl
+numberOf-one (suc at) [] = refl
+numberOf-one zero (x ∷ s) = omega arith
+numberOf-one (suc at) (x ∷ s) = numberOf-one at s
 
 one-taken : (at : ℕ) (s : List ℕ) → at < length s → take 1 (drop at s) ≡ getD s at 0 ∷ []
 one-taken at [] h = absurd (omega arith)
@@ -36,13 +36,13 @@ one-taken zero (x ∷ s) h = refl
 one-taken (suc at) (x ∷ s) h = one-taken at s (omega arith)
 
 -- n bytes, then m bytes
-pub value-split : (n m at : ℕ) (s : List ℕ) → at + n ≤ length s
-    → value 256 (take (n + m) (drop at s)) ≡ value 256 (take n (drop at s)) + 2 ^ (8 * n) * value 256 (take m (drop (at + n) s))
-value-split n m at s h =
+pub numberOf-split : (n m at : ℕ) (s : List ℕ) → at + n ≤ length s
+    → numberOf 256 (take (n + m) (drop at s)) ≡ numberOf 256 (take n (drop at s)) + 2 ^ (8 * n) * numberOf 256 (take m (drop (at + n) s))
+numberOf-split n m at s h =
     let t : List ℕ = drop at s in
-    ap (value 256) (take-add n m t)
-    ∙ value-append (take n t) (take m (drop n t))
-    ∙ ap₂ (λ (k : ℕ) (d : List ℕ). value 256 (take n t) + 2 ^ (8 * k) * value 256 (take m d)) (length-take-le n t (simp length-drop (omega arith)))
+    ap (numberOf 256) (take-add n m t)
+    ∙ numberOf-append (take n t) (take m (drop n t))
+    ∙ ap₂ (λ (k : ℕ) (d : List ℕ). numberOf 256 (take n t) + 2 ^ (8 * k) * numberOf 256 (take m d)) (length-take-le n t (simp length-drop (omega arith)))
     (drop-drop n at s)
 
 -- ---- putting in
@@ -61,8 +61,8 @@ bytes-drop : (n : ℕ) (l : List ℕ) → Bytes l → Bytes (drop n l)
 bytes-drop n l h k = rw (getD-drop n l k 0) (h (n + k))
 
 -- one byte below the others of a lane
-value-shift : (b m k : ℕ) → b < 256 → bitXor (b * 2 ^ k) (m * 2 ^ (8 + k)) ≡ (m * 256 + b) * 2 ^ k
-value-shift b m k h =
+numberOf-shift : (b m k : ℕ) → b < 256 → bitXor (b * 2 ^ k) (m * 2 ^ (8 + k)) ≡ (m * 256 + b) * 2 ^ k
+numberOf-shift b m k h =
     ap (λ (x : ℕ). bitXor (b * 2 ^ k) (m * x)) (pow-add 2 8 k)
     ∙ ap (bitXor (b * 2 ^ k)) (sym (mul-assoc m 256 (2 ^ k)))
     ∙ xor-scale b (m * 256) k
@@ -70,7 +70,7 @@ value-shift b m k h =
 
 -- bytes put into lane i from its byte j on are one exclusive or
 xor-lane-from : (bs a : List ℕ) (i j : ℕ) → j + length bs ≤ 8 → Bytes bs
-    → xorBytes a (8 * i + j) bs ≡ set a i (bitXor (getD a i 0) (value 256 bs * 2 ^ (8 * j)))
+    → xorBytes a (8 * i + j) bs ≡ set a i (bitXor (getD a i 0) (numberOf 256 bs * 2 ^ (8 * j)))
 unfolding xorBytes xorByte
 xor-lane-from [] a i j h hb = sym (rw (zero-mul, xor-zero-r, set-getD))
 xor-lane-from (b ∷ bs) a i j h hb =
@@ -80,18 +80,18 @@ xor-lane-from (b ∷ bs) a i j h hb =
     let w : 8 * (j + 1) ≡ 8 + 8 * j = omega arith in
     rw (q, r, e)
     (xor-lane-from bs (set a i (bitXor (getD a i 0) (b * 2 ^ (8 * j)))) i (j + 1) (omega arith) (λ k. hb (suc k))
-    ∙ upd-upd (λ x. bitXor x (b * 2 ^ (8 * j))) (λ x. bitXor x (value 256 bs * 2 ^ (8 * (j + 1)))) a i
+    ∙ upd-upd (λ x. bitXor x (b * 2 ^ (8 * j))) (λ x. bitXor x (numberOf 256 bs * 2 ^ (8 * (j + 1)))) a i
     ∙ ap (set a i)
-    (xor-assoc (getD a i 0) (b * 2 ^ (8 * j)) (value 256 bs * 2 ^ (8 * (j + 1)))
-    ∙ ap (bitXor (getD a i 0)) (ap (λ (x : ℕ). bitXor (b * 2 ^ (8 * j)) (value 256 bs * 2 ^ x)) w ∙ value-shift b (value 256 bs) (8 * j) (hb 0))))
+    (xor-assoc (getD a i 0) (b * 2 ^ (8 * j)) (numberOf 256 bs * 2 ^ (8 * (j + 1)))
+    ∙ ap (bitXor (getD a i 0)) (ap (λ (x : ℕ). bitXor (b * 2 ^ (8 * j)) (numberOf 256 bs * 2 ^ x)) w ∙ numberOf-shift b (numberOf 256 bs) (8 * j) (hb 0))))
 
-xor-lane : (bs a : List ℕ) (i : ℕ) → length bs ≤ 8 → Bytes bs → xorBytes a (8 * i) bs ≡ set a i (bitXor (getD a i 0) (value 256 bs))
+xor-lane : (bs a : List ℕ) (i : ℕ) → length bs ≤ 8 → Bytes bs → xorBytes a (8 * i) bs ≡ set a i (bitXor (getD a i 0) (numberOf 256 bs))
 xor-lane bs a i h hb =
-    let w : value 256 bs * 1 ≡ value 256 bs = omega arith in
+    let w : numberOf 256 bs * 1 ≡ numberOf 256 bs = omega arith in
     ap (λ (k : ℕ). xorBytes a k bs) (sym (add-zero (8 * i))) ∙ xor-lane-from bs a i 0 (omega arith) hb ∙ ap (λ (x : ℕ). set a i (bitXor (getD a i 0) x)) w
 
 -- the same at byte p, where a lane begins
-xor-lane-at : (bs a : List ℕ) (p : ℕ) → p % 8 ≡ 0 → length bs ≤ 8 → Bytes bs → set a (p / 8) (bitXor (getD a (p / 8) 0) (value 256 bs)) ≡ xorBytes a p bs
+xor-lane-at : (bs a : List ℕ) (p : ℕ) → p % 8 ≡ 0 → length bs ≤ 8 → Bytes bs → set a (p / 8) (bitXor (getD a (p / 8) 0) (numberOf 256 bs)) ≡ xorBytes a p bs
 xor-lane-at bs a p z h hb =
     let e : 8 * (p / 8) ≡ p = omega arith in
     sym (xor-lane bs a (p / 8) h hb) ∙ ap (λ (k : ℕ). xorBytes a k bs) e
@@ -114,5 +114,5 @@ byte-put s a p at h = sym (ap (xorBytes a p) (one-taken at s h))
 
 -- a lane of them, at byte p where one begins
 pub lane-put : (s a : List ℕ) (p at : ℕ) → p % 8 ≡ 0 → Bytes s
-    → set a (p / 8) (bitXor (getD a (p / 8) 0) (value 256 (take 8 (drop at s)))) ≡ xorBytes a p (take 8 (drop at s))
+    → set a (p / 8) (bitXor (getD a (p / 8) 0) (numberOf 256 (take 8 (drop at s)))) ≡ xorBytes a p (take 8 (drop at s))
 lane-put s a p at z hb = xor-lane-at (take 8 (drop at s)) a p z (simp length-take (omega arith)) (bytes-take 8 (drop at s) (bytes-drop at s hb))

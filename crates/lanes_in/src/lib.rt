@@ -3,35 +3,35 @@ ghost use mathlib.Core.Path.{_≡_};
 ghost use Prim.Native.Nat.{_+_, _-_, _%_, _<_, _≤_, min};
 ghost use lib.ListN.{length, take, drop};
 ghost use Rattle.fips202.specs.Bytes.{xorByte, xorBytes};
-ghost use Rattle.encode.specs.Digits.{value};
+ghost use Rattle.encode.specs.Digits.{numberOf};
 ghost use Rattle.encode.specs.Padding.{rate};
 use encode::RATE;
 
 // The bytes of `s` from `at` on as a number: one, two, four and eight of them. The compiler makes each eight one load.
 fn load1(s: &[u8], at: usize) -> u64
     requires { ⌜ at + 1 ≤ length (now s) ⌝ }
-    ensures { λ r. ⌜ (r ≡ value 256 (take 1 (drop at (now (s .entry))))) × (r < 0x100) ⌝ }
+    ensures { λ r. ⌜ (r ≡ numberOf 256 (take 1 (drop at (now (s .entry))))) × (r < 0x100) ⌝ }
 {
     s[at] as u64
 }
 
 fn load2(s: &[u8], at: usize) -> u64
     requires { ⌜ at + 2 ≤ length (now s) ⌝ }
-    ensures { λ r. ⌜ (r ≡ value 256 (take 2 (drop at (now (s .entry))))) × (r < 0x1_0000) ⌝ }
+    ensures { λ r. ⌜ (r ≡ numberOf 256 (take 2 (drop at (now (s .entry))))) × (r < 0x1_0000) ⌝ }
 {
     load1(s, at) + load1(s, at + 1) * 0x100
 }
 
 fn load4(s: &[u8], at: usize) -> u64
     requires { ⌜ at + 4 ≤ length (now s) ⌝ }
-    ensures { λ r. ⌜ (r ≡ value 256 (take 4 (drop at (now (s .entry))))) × (r < 0x1_0000_0000) ⌝ }
+    ensures { λ r. ⌜ (r ≡ numberOf 256 (take 4 (drop at (now (s .entry))))) × (r < 0x1_0000_0000) ⌝ }
 {
     load2(s, at) + load2(s, at + 2) * 0x1_0000
 }
 
 fn load8(s: &[u8], at: usize) -> u64
     requires { ⌜ at + 8 ≤ length (now s) ⌝ }
-    ensures { λ r. ⌜ r ≡ value 256 (take 8 (drop at (now (s .entry)))) ⌝ }
+    ensures { λ r. ⌜ r ≡ numberOf 256 (take 8 (drop at (now (s .entry)))) ⌝ }
 {
     load4(s, at) + load4(s, at + 4) * 0x1_0000_0000
 }

@@ -8,7 +8,7 @@ use native.Mathlib.Omega.{arith}
 use borrow.Author.Tests.{ltb-true, ltb-false}
 use lib.Dec.{ltb}
 use lib.ListN.{length}
-use Rattle.encode.specs.Digits.{digits, value, widthIn, width}
+use Rattle.encode.specs.Digits.{digits, numberOf, widthIn, width}
 
 pub length-digits : (b k n : ℕ) → length (digits b k n) ≡ k
 length-digits b zero n = refl
@@ -23,9 +23,9 @@ module _ (b : ℕ) (base : 2 ≤ b) where
   up k n = rw pow-suc (div-lt-iff-lt-mul {k = b} {x = n} {y = b ^ k} (omega arith))
 
   -- k digits hold every number below b ^ k
-  pub value-digits : (k n : ℕ) → n < b ^ k → value b (digits b k n) ≡ n
-  value-digits zero n h = let z : n < 1 = rw (pow-zero b) at h in omega arith
-  value-digits (suc k) n h = rw (value-digits k (n / b) (up k n .1 h)) (div-add-mod' n b)
+  pub numberOf-digits : (k n : ℕ) → n < b ^ k → numberOf b (digits b k n) ≡ n
+  numberOf-digits zero n h = let z : n < 1 = rw (pow-zero b) at h in omega arith
+  numberOf-digits (suc k) n h = rw (numberOf-digits k (n / b) (up k n .1 h)) (div-add-mod' n b)
 
   -- a number's width is 1, or one more than its upper digits' width
   step : (P : ℕ → Type 0) (f n : ℕ) → (n < b → P 1) → (b ≤ n → P (suc (widthIn b f (n / b)))) → P (widthIn b (suc f) n)
@@ -56,8 +56,8 @@ module _ (b : ℕ) (base : 2 ≤ b) where
       step (λ w. w ≤ suc (suc k)) f n (λ p. omega arith) (λ big. omega (arith, fewest f (n / b) k (up (suc k) n .1 h)))
 
   -- so the width's digits are the number's own
-  pub value-width : (n : ℕ) → value b (digits b (width b n) n) ≡ n
-  value-width n = value-digits (width b n) n (width-holds n n (omega arith))
+  pub numberOf-width : (n : ℕ) → numberOf b (digits b (width b n) n) ≡ n
+  numberOf-width n = numberOf-digits (width b n) n (width-holds n n (omega arith))
 
   pub width-pos : (f n : ℕ) → 0 < widthIn b f n
   unfolding widthIn

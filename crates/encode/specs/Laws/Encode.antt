@@ -4,19 +4,19 @@ use mathlib.Core.List.{List, _++_, reverse, reverse-reverse, append-assoc}
 use Prim.Native.Nat.{ℕ, _*_}
 use native.Mathlib.Omega.{arith}
 use lib.ListN.{length, replicate}
-use Rattle.encode.specs.Digits.{value}
+use Rattle.encode.specs.Digits.{numberOf}
 use Rattle.encode.specs.Padding.{shortfall, padTo}
 use Rattle.encode.specs.Encode.{bigEndian, lengthPrefixed, leftEncode, rightEncode, encodeString, bytepad}
-use Rattle.encode.specs.Laws.Digits.{value-width}
+use Rattle.encode.specs.Laws.Digits.{numberOf-width}
 use Rattle.encode.specs.Laws.Codes.{PrefixFree, SuffixFree, cut, lengthPrefixed-free, lengthSuffixed-free, lastSuffixed, lastSuffixed-of}
 use Rattle.encode.specs.Laws.Codes.{through, after, followed}
 
-pub value-bigEndian : (n : ℕ) → value 256 (reverse (bigEndian n)) ≡ n
+pub numberOf-bigEndian : (n : ℕ) → numberOf 256 (reverse (bigEndian n)) ≡ n
 unfolding bigEndian
-value-bigEndian n = simp reverse-reverse (value-width 256 (omega arith) n)
+numberOf-bigEndian n = simp reverse-reverse (numberOf-width 256 (omega arith) n)
 
 bigEndian-fixes : (a b : ℕ) → bigEndian a ≡ bigEndian b → a ≡ b
-bigEndian-fixes a b e = sym (value-bigEndian a) ∙ rw e (value-bigEndian b)
+bigEndian-fixes a b e = sym (numberOf-bigEndian a) ∙ rw e (numberOf-bigEndian b)
 
 pub leftEncode-free : PrefixFree leftEncode
 unfolding leftEncode
@@ -30,11 +30,11 @@ rightEncode-free a b x y e =
 
 -- the number whose right_encode ends the bytes
 pub lastEncoded : List ℕ → ℕ
-lastEncoded m = value 256 (reverse (lastSuffixed m))
+lastEncoded m = numberOf 256 (reverse (lastSuffixed m))
 
 pub lastEncoded-of : (x : List ℕ) (n : ℕ) → lastEncoded (x ++ rightEncode n) ≡ n
 unfolding lastEncoded rightEncode
-lastEncoded-of x n = rw (lastSuffixed-of x (bigEndian n)) (value-bigEndian n)
+lastEncoded-of x n = rw (lastSuffixed-of x (bigEndian n)) (numberOf-bigEndian n)
 
 pub encodeString-free : PrefixFree encodeString
 unfolding encodeString

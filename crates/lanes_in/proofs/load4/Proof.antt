@@ -1,6 +1,6 @@
--- The law that joins two numbers of bytes (`Lanes.value-split`), at 2 and 2.
+-- The law that joins two numbers of bytes (`Lanes.numberOf-split`), at 2 and 2.
 use native.Mathlib.Omega.{arith}
-use Rattle.lanes_in.proofs.Lanes.{value-split}
+use Rattle.lanes_in.proofs.Lanes.{numberOf-split}
 use borrow.Author.Needs.{needs}
 use Rattle.lanes_in.proofs.load4.Statement.{statement}
 use Rattle.lanes_in.proofs.load4.Tie as tie
@@ -23,7 +23,7 @@ add-result c = search needs
 returns : tie.Need-returns
 returns c =
     let a = c .before .before .before .args in
-    omega (arith, value-split 2 2 (a .at) (a .s .now) (omega arith))
+    omega (arith, numberOf-split 2 2 (a .at) (a .s .now) (omega arith))
 
 pub load4-spec : {M : Type 1} → statement M
 load4-spec =

@@ -1,6 +1,6 @@
--- The law that joins two numbers of bytes (`Lanes.value-split`), at 4 and 4.
+-- The law that joins two numbers of bytes (`Lanes.numberOf-split`), at 4 and 4.
 use native.Mathlib.Omega.{arith}
-use Rattle.lanes_in.proofs.Lanes.{value-split}
+use Rattle.lanes_in.proofs.Lanes.{numberOf-split}
 use borrow.Author.Needs.{needs}
 use Rattle.lanes_in.proofs.load8.Statement.{statement}
 use Rattle.lanes_in.proofs.load8.Tie as tie
@@ -23,7 +23,7 @@ add-result c = search needs
 returns : tie.Need-returns
 returns c =
     let a = c .before .before .before .args in
-    omega (arith, value-split 4 4 (a .at) (a .s .now) (omega arith))
+    omega (arith, numberOf-split 4 4 (a .at) (a .s .now) (omega arith))
 
 pub load8-spec : {M : Type 1} → statement M
 load8-spec =
