@@ -17,7 +17,8 @@ accepted c = sym (c .before .keyed-refusal .ensures) ∙ c .if1 .left
 returns : tie.Need-returns
 returns c =
     let tested = c .before .before in
-    refused-starts (asked tested) (tested .keyed-refusal .result) (c .refuse .result) (tested .keyed-refusal .ensures) (c .before .if1 .taken) (c .refuse .ensures)
+    refused-starts (asked tested) (tested .keyed-refusal .result) (c .refuse .result) (tested .keyed-refusal .ensures)
+    (c .before .if1 .taken) (c .refuse .ensures)
 
 absorb-name-requires : tie.Need-absorb-name-requires
 absorb-name-requires c κs = (omega arith, keyed-lengths _ _ (accepted (c .before .before)) .1)

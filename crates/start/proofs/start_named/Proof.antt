@@ -16,7 +16,8 @@ accepted c = sym (c .before .named-refusal .ensures) ∙ c .if1 .left
 returns : tie.Need-returns
 returns c =
     let tested = c .before .before in
-    refused-starts (asked tested) (tested .named-refusal .result) (c .refuse .result) (tested .named-refusal .ensures) (c .before .if1 .taken) (c .refuse .ensures)
+    refused-starts (asked tested) (tested .named-refusal .result) (c .refuse .result) (tested .named-refusal .ensures)
+    (c .before .if1 .taken) (c .refuse .ensures)
 
 returns-2 : tie.Need-returns-2
 returns-2 c = shake-starts _ _ (accepted (c .before)) (c .if2 .taken)
