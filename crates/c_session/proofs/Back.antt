@@ -3,9 +3,9 @@ use mathlib.Core.Path.{_≡_, refl, ap}
 use mathlib.Core.List.{List, [], _∷_, _++_}
 use Prim.Native.Nat.{ℕ}
 use Rattle.answers.specs.Done.{ifDone}
-use Rattle.session.specs.declared.Phase.{Phase}
-use Rattle.session.specs.declared.Phase.the-variants.{Taking, Giving}
-use Rattle.session.specs.declared.Session.{Session}
+use Rattle.session_state.specs.declared.Phase.{Phase}
+use Rattle.session_state.specs.declared.Phase.the-variants.{Taking, Giving}
+use Rattle.session_state.specs.declared.Session.{Session}
 use Rattle.session.specs.History.{SessionCall, called, pieceOf, givenBy, numbers, acceptedPieces, output}
 use Rattle.c_flag.specs.FlagLaws.{flag-back}
 use Rattle.c_session.specs.Session.{phaseNumber, phasePosition, importedPhase, exportedSession, importedSession}

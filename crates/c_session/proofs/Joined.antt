@@ -1,7 +1,7 @@
 -- The joined-bytes rule of the crate `session`, carried over call by call (`Back`).
 use mathlib.Core.List.{List}
 use Rattle.calls.specs.Start.{Start}
-use Rattle.session.specs.Session.{begun}
+use Rattle.session_state.specs.Session.{begun}
 use Rattle.session.specs.History.{SessionCall}
 use Rattle.session.specs.Joined.{JoinedBytes}
 use Rattle.session.proofs.Joined.{joined-bytes}

@@ -9,7 +9,7 @@ use Rattle.answers.specs.Done.{ifDone}
 use Rattle.calls.specs.Start.{Start, startRefusal}
 use Rattle.calls.specs.Call.{Accepted, fed, extendableCall}
 use Rattle.sponge.specs.Sponge.{sponge}
-use Rattle.session.specs.Session.{begun}
+use Rattle.session_state.specs.Session.{begun}
 use Rattle.session.specs.History.{SessionCall, called, pieceOf, givenBy, tableNumbers}
 use Rattle.c_session.specs.Session.{importedSession, exportedAnswer}
 use Rattle.c_session.specs.declared.CSession.{CSession}

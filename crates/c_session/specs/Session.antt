@@ -2,10 +2,10 @@
 use Prim.Native.Nat.{ℕ}
 use mathlib.Core.Bool.{cond}
 use lib.Dec.{eqb}
-use Rattle.session.specs.declared.Phase.{Phase}
-use Rattle.session.specs.declared.Phase.the-variants.{Taking, Giving}
-use Rattle.session.specs.declared.Session.{Session}
-use Rattle.session.specs.declared.SessionAnswer.{SessionAnswer}
+use Rattle.session_state.specs.declared.Phase.{Phase}
+use Rattle.session_state.specs.declared.Phase.the-variants.{Taking, Giving}
+use Rattle.session_state.specs.declared.Session.{Session}
+use Rattle.session_state.specs.declared.SessionAnswer.{SessionAnswer}
 use Rattle.c_flag.specs.Flag.{flag, isSet}
 use Rattle.c_session.specs.declared.CSession.{CSession}
 use Rattle.c_session.specs.declared.CSessionAnswer.{CSessionAnswer}

@@ -3,7 +3,7 @@ use mathlib.Core.Path.{_≡_}
 use mathlib.Core.List.{List}
 use Prim.Native.Nat.{ℕ, _<_}
 use Rattle.calls.specs.Start.{Start, startRefusal}
-use Rattle.session.specs.Session.{sessionAnswer, begun, taking, giving, filled}
+use Rattle.session_state.specs.Session.{sessionAnswer, begun, taking, giving, filled}
 
 -- whatever it is asked for, it stays as it is and writes nothing
 pub record Unstarted (s : Start) : Type 0 where

@@ -4,8 +4,8 @@ use mathlib.Core.Path.{ap, _∙_}
 use denote.Ref.{now}
 use lib.ListN.{length}
 use borrow.Author.Needs.{needs}
-use Rattle.session.specs.declared.Session.{Session}
-use Rattle.session.specs.Session.{giving, filled}
+use Rattle.session_state.specs.declared.Session.{Session}
+use Rattle.session_state.specs.Session.{giving, filled}
 use Rattle.c_session.specs.Session.{exportedAnswer}
 use Rattle.c_session.proofs.give.Statement.{statement}
 use Rattle.c_session.proofs.give.Tie as tie

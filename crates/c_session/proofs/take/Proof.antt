@@ -3,8 +3,8 @@
 use mathlib.Core.Path.{ap, _∙_}
 use borrow.Author.Needs.{needs}
 use denote.Ref.{now}
-use Rattle.session.specs.declared.Session.{Session}
-use Rattle.session.specs.Session.{taking}
+use Rattle.session_state.specs.declared.Session.{Session}
+use Rattle.session_state.specs.Session.{taking}
 use Rattle.c_session.specs.Session.{exportedAnswer}
 use Rattle.c_session.proofs.take.Statement.{statement}
 use Rattle.c_session.proofs.take.Tie as tie

@@ -3,9 +3,9 @@ use mathlib.Core.Path.{ap, _∙_}
 use mathlib.Core.Bool.{true}
 use borrow.Author.Needs.{needs}
 use Rattle.start.specs.declared.Started.{Started}
-use Rattle.session.specs.Session.{startedSession, begun}
-use Rattle.session.proofs.start_kmacxof256.Statement.{statement}
-use Rattle.session.proofs.start_kmacxof256.Tie as tie
+use Rattle.session_state.specs.Session.{startedSession, begun}
+use Rattle.session_start.proofs.start_kmacxof256.Statement.{statement}
+use Rattle.session_start.proofs.start_kmacxof256.Tie as tie
 
 returns : tie.Need-returns
 unfolding begun

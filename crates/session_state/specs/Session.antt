@@ -1,22 +1,23 @@
 -- Running sessions (docs/RULES.md, 'Sessions'): what each call hands back, as a function of the session's value.
 -- Of a session that a caller made up by hand docs/RULES.md leaves the result free. Here it is fixed all the same: a position at which the block is full, or
--- beyond, is taken modulo 136 by a taking session and followed by the next block in a giving one; totals and limit are compared as they stand.
+-- beyond, is taken modulo the rate by a taking session and followed by the next block in a giving one; totals and limit are compared as they stand.
 use mathlib.Core.Bool.{Bool, true, false, cond}
 use mathlib.Core.List.{List, []}
 use Prim.Native.Nat.{ℕ, _+_, _%_}
 use lib.Dec.{ltb, eqb}
 use lib.ListN.{length, replicate}
 use Rattle.answers.specs.Numbers.{done, wrongState, inputTooLong, badOutputLength}
+use Rattle.encode.specs.Padding.{rate}
 use Rattle.encode.specs.Encode.{rightEncode}
 use Rattle.calls.specs.Limits.{maxMessage, maxOutput}
 use Rattle.calls.specs.Start.{Start, named, keyed}
 use Rattle.sponge.specs.Running.{Running, running, absorbed, finished, squeezed, after}
 use Rattle.start.specs.declared.Started.{Started}
 use Rattle.start.specs.Started.{started}
-use Rattle.session.specs.declared.Phase.{Phase}
-use Rattle.session.specs.declared.Phase.the-variants.{Taking, Giving}
-use Rattle.session.specs.declared.Session.{Session}
-use Rattle.session.specs.declared.SessionAnswer.{SessionAnswer}
+use Rattle.session_state.specs.declared.Phase.{Phase}
+use Rattle.session_state.specs.declared.Phase.the-variants.{Taking, Giving}
+use Rattle.session_state.specs.declared.Session.{Session}
+use Rattle.session_state.specs.declared.SessionAnswer.{SessionAnswer}
 
 abbrev pub sessionAnswer : ℕ → Session → SessionAnswer
 sessionAnswer k s = record { number = k; session = s }
@@ -79,7 +80,7 @@ afterTaking s n u =
 unfoldable pub takingIn : Phase → Session → List ℕ → SessionAnswer
 takingIn (Taking p) s m =
     cond (ltb maxMessage (s .taken + length m)) (sessionAnswer inputTooLong s)
-    (sessionAnswer done (afterTaking s (length m) (absorbed (running (s .lanes) (p % 136)) m)))
+    (sessionAnswer done (afterTaking s (length m) (absorbed (running (s .lanes) (p % rate)) m)))
 takingIn (Giving p) s m = sessionAnswer wrongState s
 
 -- a piece m
@@ -95,7 +96,7 @@ inputEnd false = []
 
 -- the sponge that a session gives from: the first ask ends the input
 unfoldable pub givingSponge : Phase → Session → Running
-givingSponge (Taking p) s = finished (s .suffix) (absorbed (running (s .lanes) (p % 136)) (inputEnd (s .kmac)))
+givingSponge (Taking p) s = finished (s .suffix) (absorbed (running (s .lanes) (p % rate)) (inputEnd (s .kmac)))
 givingSponge (Giving p) s = running (s .lanes) p
 
 -- the session with n more bytes given, which led to the sponge u

@@ -1,8 +1,8 @@
 -- Each arm has the phase's equation; a session that is taking has its input ended.
 use borrow.Author.Needs.{needs}
-use Rattle.session.specs.Session.{givingSponge}
-use Rattle.session.proofs.giving_sponge.Statement.{statement}
-use Rattle.session.proofs.giving_sponge.Tie as tie
+use Rattle.session_state.specs.Session.{givingSponge}
+use Rattle.session_end.proofs.giving_sponge.Statement.{statement}
+use Rattle.session_end.proofs.giving_sponge.Tie as tie
 
 returns : tie.Need-returns
 unfolding givingSponge

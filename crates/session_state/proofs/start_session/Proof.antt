@@ -1,8 +1,8 @@
 -- The start's number is 0 or it is not: `startedSession` asks the same.
 use borrow.Author.Tests.{eq-eqb, ne-eqb}
-use Rattle.session.specs.Session.{startedSession}
-use Rattle.session.proofs.start_session.Statement.{statement}
-use Rattle.session.proofs.start_session.Tie as tie
+use Rattle.session_state.specs.Session.{startedSession}
+use Rattle.session_state.proofs.start_session.Statement.{statement}
+use Rattle.session_state.proofs.start_session.Tie as tie
 
 returns : tie.Need-returns
 unfolding startedSession
