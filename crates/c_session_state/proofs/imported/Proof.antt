@@ -1,8 +1,8 @@
 -- Field by field; the phase and the flag as their own conversions have them.
 -- The other fields are handed on as they stand.
 use borrow.Author.Needs.{needs}
-use Rattle.c_session.proofs.imported.Statement.{statement}
-use Rattle.c_session.proofs.imported.Tie as tie
+use Rattle.c_session_state.proofs.imported.Statement.{statement}
+use Rattle.c_session_state.proofs.imported.Tie as tie
 
 returns : tie.Need-returns
 returns c = rw (c .before .imported-phase .ensures, c .is-set .ensures)

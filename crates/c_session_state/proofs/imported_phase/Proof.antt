@@ -1,8 +1,8 @@
 -- The number is 0 or it is not: `importedPhase` asks the same.
 -- Each arm of the code is the definition's arm for that case.
 use borrow.Author.Tests.{eq-eqb, ne-eqb}
-use Rattle.c_session.proofs.imported_phase.Statement.{statement}
-use Rattle.c_session.proofs.imported_phase.Tie as tie
+use Rattle.c_session_state.proofs.imported_phase.Statement.{statement}
+use Rattle.c_session_state.proofs.imported_phase.Tie as tie
 
 returns : tie.Need-returns
 returns c = rw (eq-eqb _ _ (c .if1 .taken))

@@ -7,8 +7,8 @@ use Rattle.session_state.specs.declared.Phase.the-variants.{Taking, Giving}
 use Rattle.session_state.specs.declared.Session.{Session}
 use Rattle.session_state.specs.declared.SessionAnswer.{SessionAnswer}
 use Rattle.c_flag.specs.Flag.{flag, isSet}
-use Rattle.c_session.specs.declared.CSession.{CSession}
-use Rattle.c_session.specs.declared.CSessionAnswer.{CSessionAnswer}
+use Rattle.c_session_state.specs.declared.CSession.{CSession}
+use Rattle.c_session_state.specs.declared.CSessionAnswer.{CSessionAnswer}
 
 abbrev pub phaseNumber : Phase → ℕ
 phaseNumber (Taking p) = 0
@@ -46,5 +46,8 @@ importedSession s =
       kmac = isSet (s .kmac);
     }
 
+abbrev pub cSessionAnswer : ℕ → CSession → CSessionAnswer
+cSessionAnswer k s = record { session = s; number = k }
+
 abbrev pub exportedAnswer : SessionAnswer → CSessionAnswer
-exportedAnswer a = record { session = exportedSession (a .session); number = a .number }
+exportedAnswer a = cSessionAnswer (a .number) (exportedSession (a .session))
