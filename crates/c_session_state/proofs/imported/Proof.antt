@@ -5,7 +5,18 @@ use Rattle.c_session_state.proofs.imported.Statement.{statement}
 use Rattle.c_session_state.proofs.imported.Tie as tie
 
 returns : tie.Need-returns
-returns c = rw (c .before .imported-phase .ensures, c .is-set .ensures)
+returns c =
+    let s = c .before .before .before .args .s in
+    λ j.
+    record {
+      lanes = s .lanes;
+      phase = c .before .imported-phase .ensures j;
+      taken = s .taken;
+      given = s .given;
+      limit = s .limit;
+      suffix = s .suffix;
+      kmac = c .is-set .ensures j;
+    }
 
 pub imported-spec : {M : Type 1} → statement M
 imported-spec = tie.close (tie.spec (λ c κs. search needs) (λ c κs. search needs) returns)
