@@ -86,7 +86,8 @@ gives-one c cs s (gave {out} bounded e f) ih =
     let t : Session = gaveTo s out in
     let taken : acceptedPieces t cs ≡ [] = takes-nothing cs t (after (length out) from .position) refl in
     rw (e, f, taken)
-    (join-one (length out) from (output t cs) (ih t) ∙ ap (squeezed (length (squeezed (length out) from ++ output t cs))) (sym (sourceAfter-none (s .phase) s)))
+    (join-one (length out) from (output t cs) (ih t)
+    ∙ ap (squeezed (length (squeezed (length out) from ++ output t cs))) (sym (sourceAfter-none (s .phase) s)))
 
 pub gives-joined : (cs : List SessionCall) (s : Session) → Gives cs s
 gives-joined = by-case Gives gives-none gives-one

@@ -114,7 +114,9 @@ afterGiving s n u =
 
 -- an ask for n bytes
 unfoldable pub giving : Session → ℕ → SessionAnswer
-giving s n = cond (ltb (s .limit) (s .given + n)) (sessionAnswer badOutputLength s) (sessionAnswer done (afterGiving s n (after n (givingSponge (s .phase) s))))
+giving s n =
+    cond (ltb (s .limit) (s .given + n)) (sessionAnswer badOutputLength s)
+    (sessionAnswer done (afterGiving s n (after n (givingSponge (s .phase) s))))
 
 -- the lent output after the ask
 unfoldable pub filled : Session → List ℕ → List ℕ
