@@ -3,13 +3,13 @@ use mathlib.Core.Path.{_≡_, refl, ap}
 use mathlib.Core.List.{List, [], _∷_, _++_}
 use Prim.Native.Nat.{ℕ}
 use Rattle.answers.specs.Done.{ifDone}
-use Rattle.session.specs.declared.Phase.{Phase}
-use Rattle.session.specs.declared.Phase.the-variants.{Taking, Giving}
-use Rattle.session.specs.declared.Session.{Session}
-use Rattle.session.specs.History.{SessionCall, called, pieceOf, givenBy, numbers, acceptedPieces, output}
+use Rattle.session_state.specs.declared.Phase.{Phase}
+use Rattle.session_state.specs.declared.Phase.the-variants.{Taking, Giving}
+use Rattle.session_state.specs.declared.Session.{Session}
+use Rattle.session.specs.History.{SessionCall, called, pieceOf, givenBy, sessionAfter, numbers, acceptedPieces, output}
 use Rattle.c_flag.specs.FlagLaws.{flag-back}
-use Rattle.c_session.specs.Session.{phaseNumber, phasePosition, importedPhase, exportedSession, importedSession}
-use Rattle.c_session.specs.JoinedFromC.{cNumbers, cPieces, cOutput}
+use Rattle.c_session_state.specs.Session.{phaseNumber, phasePosition, importedPhase, exportedSession, importedSession}
+use Rattle.c_session.specs.HistoryFromC.{cSessionAfter, cNumbers, cPieces, cOutput}
 
 phase-back : (p : Phase) → importedPhase (phaseNumber p) (phasePosition p) ≡ p
 phase-back (Taking at) = refl
@@ -17,6 +17,11 @@ phase-back (Giving at) = refl
 
 pub session-back : (s : Session) → importedSession (exportedSession s) ≡ s
 session-back s = rw (phase-back (s .phase), flag-back (s .kmac))
+
+pub after-back : (s : Session) (cs : List SessionCall) → cSessionAfter (exportedSession s) cs ≡ exportedSession (sessionAfter s cs)
+unfolding cSessionAfter sessionAfter
+after-back s [] = refl
+after-back s (c ∷ cs) = rw (session-back s) (after-back (called s c .session) cs)
 
 pub numbers-back : (s : Session) (cs : List SessionCall) → cNumbers (exportedSession s) cs ≡ numbers s cs
 unfolding cNumbers numbers

@@ -1,3 +1,4 @@
--- A session as C has it; then what holds of calls in a row from C.
-pub mod Session
+-- Calls in a row from C; then what holds of a session that could not start, and the joined-bytes rule.
+pub mod HistoryFromC
+pub mod UnstartedFromC
 pub mod JoinedFromC

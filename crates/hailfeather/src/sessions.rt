@@ -2,8 +2,8 @@
 ghost use mathlib.Core.Path.{_≡_};
 ghost use lib.ListN.{length};
 ghost use Rattle.calls.specs.Start.{named, keyed};
-ghost use Rattle.session.specs.Session.{begun, taking, giving, filled};
-ghost use Rattle.c_session.specs.Session.{importedSession, exportedAnswer};
+ghost use Rattle.session_state.specs.Session.{begun, taking, giving, filled};
+ghost use Rattle.c_session_state.specs.Session.{importedSession, exportedAnswer};
 use c_session::CSession;
 use c_session::CSessionAnswer;
 

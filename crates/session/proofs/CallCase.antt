@@ -6,17 +6,18 @@ use Prim.Native.Nat.{ℕ, suc, _+_, _%_, _≤_}
 use borrow.Author.Tests.{ltb-false}
 use lib.Dec.{ltb}
 use lib.ListN.{length}
+use Rattle.encode.specs.Padding.{rate}
 use Rattle.calls.specs.Limits.{maxMessage}
 use Rattle.sponge.specs.Running.{running, absorbed, squeezed, after}
-use Rattle.session.specs.declared.Phase.{Phase}
-use Rattle.session.specs.declared.Phase.the-variants.{Taking, Giving}
-use Rattle.session.specs.declared.Session.{Session}
-use Rattle.session.specs.Session.{sessionAnswer, afterTaking, takingIn, givingSponge, afterGiving, giving, filled}
+use Rattle.session_state.specs.declared.Phase.{Phase}
+use Rattle.session_state.specs.declared.Phase.the-variants.{Taking, Giving}
+use Rattle.session_state.specs.declared.Session.{Session}
+use Rattle.session_state.specs.Session.{sessionAnswer, afterTaking, takingIn, givingSponge, afterGiving, giving, filled}
 use Rattle.session.specs.History.{SessionCall, takes, gives, called}
 
 -- the session after a piece, or after an ask, that was accepted
 abbrev pub tookTo : Session → ℕ → List ℕ → Session
-tookTo s p m = afterTaking s (length m) (absorbed (running (s .lanes) (p % 136)) m)
+tookTo s p m = afterTaking s (length m) (absorbed (running (s .lanes) (p % rate)) m)
 
 abbrev pub gaveTo : Session → List ℕ → Session
 gaveTo s out = afterGiving s (length out) (after (length out) (givingSponge (s .phase) s))

@@ -6,19 +6,20 @@ use Prim.Native.Nat.{ℕ, _+_, _%_}
 use native.Mathlib.Nat.{mod-eq-of-lt}
 use native.Mathlib.Omega.{arith}
 use lib.ListN.{length, length-append}
+use Rattle.encode.specs.Padding.{rate}
 use Rattle.sponge.specs.Running.{Running, running, absorbed, finished, squeezed, after}
 use Rattle.sponge.proofs.Absorbing.{absorbed-append, squeezed-add, length-squeezed}
 use Rattle.sponge.proofs.Whole.{absorbed-position}
-use Rattle.session.specs.declared.Phase.{Phase}
-use Rattle.session.specs.declared.Phase.the-variants.{Taking, Giving}
-use Rattle.session.specs.declared.Session.{Session}
-use Rattle.session.specs.Session.{inputEnd, givingSponge}
+use Rattle.session_state.specs.declared.Phase.{Phase}
+use Rattle.session_state.specs.declared.Phase.the-variants.{Taking, Giving}
+use Rattle.session_state.specs.declared.Session.{Session}
+use Rattle.session_state.specs.Session.{inputEnd, givingSponge}
 use Rattle.session.specs.History.{SessionCall, acceptedPieces, output}
 use Rattle.session.proofs.CallCase.{tookTo, gaveTo, CallCase, refused, took, gave, by-case}
 
 -- the sponge that a session gives from, once it has taken m
 unfoldable pub sourceAfter : Phase → Session → List ℕ → Running
-sourceAfter (Taking p) s m = finished (s .suffix) (absorbed (running (s .lanes) (p % 136)) (m ++ inputEnd (s .kmac)))
+sourceAfter (Taking p) s m = finished (s .suffix) (absorbed (running (s .lanes) (p % rate)) (m ++ inputEnd (s .kmac)))
 sourceAfter (Giving p) s m = running (s .lanes) p
 
 sourceAfter-none : (ph : Phase) (s : Session) → sourceAfter ph s [] ≡ givingSponge ph s
@@ -30,11 +31,11 @@ sourceAfter-none (Giving p) s = refl
 sourceAfter-more : (s : Session) (p : ℕ) (m l : List ℕ) → sourceAfter (tookTo s p m .phase) (tookTo s p m) l ≡ sourceAfter (Taking p) s (m ++ l)
 unfolding sourceAfter
 sourceAfter-more s p m l =
-    let from : Running = running (s .lanes) (p % 136) in
+    let from : Running = running (s .lanes) (p % rate) in
     let u : Running = absorbed from m in
     let end : List ℕ = inputEnd (s .kmac) in
-    let i : u .position % 136 ≡ u .position
-    = mod-eq-of-lt (omega (arith, absorbed-position m (s .lanes) (p % 136) (omega arith))) in
+    let i : u .position % rate ≡ u .position
+    = mod-eq-of-lt (omega (arith, absorbed-position m (s .lanes) (p % rate) (omega arith))) in
     ap (λ (k : ℕ). finished (s .suffix) (absorbed (running (u .lanes) k) (l ++ end))) i
     ∙ ap (finished (s .suffix)) (sym (absorbed-append from m (l ++ end)))
     ∙ ap (λ (r : List ℕ). finished (s .suffix) (absorbed from r)) (sym (append-assoc m l end))
@@ -85,7 +86,8 @@ gives-one c cs s (gave {out} bounded e f) ih =
     let t : Session = gaveTo s out in
     let taken : acceptedPieces t cs ≡ [] = takes-nothing cs t (after (length out) from .position) refl in
     rw (e, f, taken)
-    (join-one (length out) from (output t cs) (ih t) ∙ ap (squeezed (length (squeezed (length out) from ++ output t cs))) (sym (sourceAfter-none (s .phase) s)))
+    (join-one (length out) from (output t cs) (ih t)
+    ∙ ap (squeezed (length (squeezed (length out) from ++ output t cs))) (sym (sourceAfter-none (s .phase) s)))
 
 pub gives-joined : (cs : List SessionCall) (s : Session) → Gives cs s
 gives-joined = by-case Gives gives-none gives-one

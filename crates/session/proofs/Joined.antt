@@ -16,9 +16,9 @@ use Rattle.sponge.specs.Running.{Running, running, fresh, absorbed, finished, s
 use Rattle.sponge.proofs.Absorbing.{absorbed-append}
 use Rattle.sponge.proofs.Whole.{absorbed-position, squeezed-whole, sponge-prefix}
 use Rattle.start.specs.Started.{afterPrefix, started}
-use Rattle.session.specs.declared.Phase.the-variants.{Taking}
-use Rattle.session.specs.declared.Session.{Session}
-use Rattle.session.specs.Session.{sessionAnswer, initial, startedSession, isKmac, begun, inputEnd}
+use Rattle.session_state.specs.declared.Phase.the-variants.{Taking}
+use Rattle.session_state.specs.declared.Session.{Session}
+use Rattle.session_state.specs.Session.{sessionAnswer, initial, startedSession, isKmac, begun, inputEnd}
 use Rattle.session.specs.History.{SessionCall, sessionAfter, acceptedPieces, output}
 use Rattle.session.specs.Joined.{JoinedBytes, JoinedBytesRule}
 use Rattle.session.proofs.EmptyPiece.{Regular, stays-regular, empty-piece}

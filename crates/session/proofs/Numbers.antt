@@ -5,12 +5,13 @@ use mathlib.Core.List.{List, [], _∷_}
 use Prim.Native.Nat.{ℕ, _+_, _%_}
 use lib.Dec.{ltb}
 use lib.ListN.{length}
+use Rattle.encode.specs.Padding.{rate}
 use Rattle.calls.specs.Limits.{maxMessage, maxOutput}
 use Rattle.sponge.specs.Running.{Running, running, absorbed, after}
-use Rattle.session.specs.declared.Phase.{Phase}
-use Rattle.session.specs.declared.Phase.the-variants.{Taking, Giving}
-use Rattle.session.specs.declared.Session.{Session}
-use Rattle.session.specs.Session.{sessionAnswer, takingIn, givingSponge, giving}
+use Rattle.session_state.specs.declared.Phase.{Phase}
+use Rattle.session_state.specs.declared.Phase.the-variants.{Taking, Giving}
+use Rattle.session_state.specs.declared.Session.{Session}
+use Rattle.session_state.specs.Session.{sessionAnswer, takingIn, givingSponge, giving}
 use Rattle.session.specs.History.{SessionCall, takes, gives, called, numbers, tableNumbers}
 
 abbrev isGiving : Phase → Bool
@@ -32,7 +33,7 @@ pub numbers-table : (cs : List SessionCall) (a : List ℕ) (ph : Phase) (t g x :
 unfolding numbers tableNumbers called takingIn giving
 numbers-table [] a ph t g x k = refl
 numbers-table (takes m ∷ cs) a (Taking p) t g x k =
-    let u : Running = absorbed (running a (p % 136)) m in
+    let u : Running = absorbed (running a (p % rate)) m in
     number-one (ltb maxMessage (t + length m)) 5 (session a (Taking p) t g x k) (session (u .lanes) (Taking (u .position)) (t + length m) g x k) cs
     (tableNumbers false t g cs) (tableNumbers false (t + length m) g cs)
     (numbers-table cs a (Taking p) t g x k)

@@ -6,8 +6,8 @@ use lib.ListN.{length, length-append}
 use Rattle.calls.specs.Limits.{maxMessage}
 use Rattle.sponge.specs.Running.{Running, squeezed}
 use Rattle.sponge.proofs.Absorbing.{length-squeezed}
-use Rattle.session.specs.declared.Session.{Session}
-use Rattle.session.specs.Session.{givingSponge}
+use Rattle.session_state.specs.declared.Session.{Session}
+use Rattle.session_state.specs.Session.{givingSponge}
 use Rattle.session.specs.History.{SessionCall, acceptedPieces, output}
 use Rattle.session.proofs.CallCase.{tookTo, gaveTo, CallCase, refused, took, gave, by-case}
 

@@ -8,7 +8,7 @@ use lib.ListN.{length}
 use Rattle.calls.specs.Start.{Start, startRefusal}
 use Rattle.sponge.specs.Running.{squeezed, after}
 use Rattle.start.specs.Started.{started}
-use Rattle.session.specs.Session.{sessionAnswer, unstarted, startedSession, begun, takingIn, givingSponge, giving, filled}
+use Rattle.session_state.specs.Session.{sessionAnswer, unstarted, startedSession, begun, takingIn, givingSponge, giving, filled}
 use Rattle.session.specs.Unstarted.{Unstarted, CouldNotStart}
 
 begun-refused : (s : Start) (k : ℕ) → startRefusal s ≡ suc k → begun s ≡ sessionAnswer (suc k) unstarted

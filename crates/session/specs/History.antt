@@ -7,9 +7,9 @@ use lib.ListN.{length}
 use Rattle.answers.specs.Numbers.{done, wrongState, inputTooLong, badOutputLength}
 use Rattle.answers.specs.Done.{ifDone}
 use Rattle.calls.specs.Limits.{maxMessage, maxOutput}
-use Rattle.session.specs.declared.Session.{Session}
-use Rattle.session.specs.declared.SessionAnswer.{SessionAnswer}
-use Rattle.session.specs.Session.{taking, giving, filled}
+use Rattle.session_state.specs.declared.Session.{Session}
+use Rattle.session_state.specs.declared.SessionAnswer.{SessionAnswer}
+use Rattle.session_state.specs.Session.{taking, giving, filled}
 
 -- a piece lent to `take`, or an output lent to `give`, as it was before
 pub data SessionCall : Type 0 where

@@ -8,7 +8,7 @@ use lib.ListN.{length, take}
 use Rattle.calls.specs.Start.{Start, startRefusal}
 use Rattle.calls.specs.Call.{Accepted, fed, extendableCall}
 use Rattle.sponge.specs.Sponge.{sponge}
-use Rattle.session.specs.Session.{begun, taking}
+use Rattle.session_state.specs.Session.{begun, taking}
 use Rattle.session.specs.History.{SessionCall, sessionAfter, numbers, acceptedPieces, output, tableNumbers}
 
 -- for the calls cs from the start s: the accepted pieces, joined, and the bytes given, joined

@@ -2,7 +2,7 @@
 -- Exporting renames fields and no more, so the entry's equation carries over.
 use mathlib.Core.Path.{ap, _∙_}
 use borrow.Author.Needs.{needs}
-use Rattle.c_session.specs.Session.{exportedAnswer}
+use Rattle.c_session_state.specs.Session.{exportedAnswer}
 use Rattle.c_session.proofs.start_kmacxof256.Statement.{statement}
 use Rattle.c_session.proofs.start_kmacxof256.Tie as tie
 

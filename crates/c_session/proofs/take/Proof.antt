@@ -3,16 +3,17 @@
 use mathlib.Core.Path.{ap, _∙_}
 use borrow.Author.Needs.{needs}
 use denote.Ref.{now}
-use Rattle.session.specs.declared.Session.{Session}
-use Rattle.session.specs.Session.{taking}
-use Rattle.c_session.specs.Session.{exportedAnswer}
+use Rattle.session_state.specs.declared.Session.{Session}
+use Rattle.session_state.specs.Session.{taking}
+use Rattle.c_session_state.specs.Session.{exportedAnswer}
 use Rattle.c_session.proofs.take.Statement.{statement}
 use Rattle.c_session.proofs.take.Tie as tie
 
 returns : tie.Need-returns
 returns c =
-    let a = c .before .before .before .before .args in
-    c .exported .ensures ∙ ap exportedAnswer (c .before .take .ensures ∙ ap (λ (s : Session). taking s (now (a .piece))) (c .before .before .imported .ensures))
+    let lent = c .before .before in
+    let piece = now (lent .before .before .args .piece) in
+    c .exported .ensures ∙ ap exportedAnswer (c .before .take .ensures ∙ ap (λ (s : Session). taking s piece) (lent .imported .ensures))
 
 pub take-spec : {M : Type 1} → statement M
 take-spec = tie.close (tie.spec (λ c κs. search needs) (λ c κs. search needs) (λ c κs. search needs) returns)
