@@ -10,6 +10,7 @@ ghost use Rattle.generator.specs.Cshake.{generate, cshakeDrng};
 use answers::DONE;
 use drng::Generator;
 use drng::GeneratorAnswer;
+use drng::KEY_BYTES;
 use drng::accept;
 use drng::draw_refusal;
 use drng::refuse;
@@ -35,7 +36,7 @@ pub fn seed(generator: Generator, seed: &[u8], personalisation: &[u8]) -> Genera
 }
 
 // `out` filled piece by piece (1.1.5); the key after the last piece.
-fn draw_pieces(old: [u8; 64], additional: &[u8], out: &mut [u8]) -> [u8; 64]
+fn draw_pieces(old: [u8; KEY_BYTES], additional: &[u8], out: &mut [u8]) -> [u8; KEY_BYTES]
     requires { ⌜ length (now additional) ≤ maxAdditional ⌝ }
     ensures { λ r. ⌜ (r ≡ drawn (generate (now (additional .entry))) (length (now (out .entry))) old .key)
         × (now (out .exit) ≡ drawn (generate (now (additional .entry))) (length (now (out .entry))) old .stream) ⌝ }

@@ -9,10 +9,12 @@ use Rattle.calls.specs.Start.{sameBytes}
 use Rattle.calls.specs.Count.{runs}
 use Rattle.calls.specs.Laws.Runs.{runs-by-lengths}
 use Rattle.sponge.specs.Running.{running, squeezed}
+use Rattle.byte_strings.specs.Combined.{combined}
 use Rattle.aead.specs.Limits.{authenticationKeyLength, leastTag, longestTag}
-use Rattle.aead.specs.Aead.{SealArguments, combined, authenticationKey, textStream, combinedText, tagOf, sealRuns}
+use Rattle.aead.specs.Aead.{SealArguments, authenticationKey, textStream, combinedText, tagOf, sealRuns}
 use Rattle.aead.specs.Refusals.{sealRefusal, openLengthsRefusal}
-use Rattle.aead.proofs.Answers.{answer, Seals, OpensInto, seal-accepted, open-accepted}
+use Rattle.aead.specs.Answers.{Seals, OpensInto}
+use Rattle.aead.proofs.Answers.{answer, seal-accepted, open-accepted}
 use Rattle.seal_calls.specs.declared.Stream.{Stream}
 use Rattle.seal.specs.Kmac.{tagCall, kmacAead}
 use Rattle.seal.proofs.Lawful.{kmac-lawful}

@@ -1,15 +1,14 @@
 // Sealing and opening by the KMAC AEAD (KMAC AEAD, 1.2; docs/RULES.md, 'Sealing'). A refusal writes nothing, and opening compares the tag before it writes.
-ghost use mathlib.Core.Path.{_≡_};
-ghost use lib.ListN.{length};
 ghost use Rattle.aead.specs.Aead.{sealArguments};
-ghost use Rattle.aead.specs.Answers.{sealed, sealedText, sealedTag, opened, openedText};
+ghost use Rattle.aead.specs.Answers.{Seals, OpensInto};
 ghost use Rattle.seal.specs.Kmac.{kmacAead};
 use aead::LEAST_TAG;
+use aead::LONGEST_TAG;
 use aead::lengths_refusal;
-use aead::same_beginning;
 use answers::DONE;
 use answers::Outcome;
 use answers::TAG_MISMATCH;
+use byte_strings::same_beginning;
 use seal_calls::begin_stream;
 use seal_calls::combine_stream;
 use seal_calls::make_tag;
@@ -28,12 +27,8 @@ pub fn seal(
     out: &mut [u8],
     tag: &mut [u8],
 ) -> Outcome
-    ensures { λ r. ⌜ (r ≡ sealed kmacAead (sealArguments (now (key .entry)) (now (iv .entry)) (now (text .entry)) (now (label .entry)))
-        (length (now (out .entry))) (length (now (tag .entry))))
-        × (now (out .exit) ≡ sealedText kmacAead (sealArguments (now (key .entry)) (now (iv .entry)) (now (text .entry)) (now (label .entry)))
-        (now (out .entry)) (length (now (tag .entry))))
-        × (now (tag .exit) ≡ sealedTag kmacAead (sealArguments (now (key .entry)) (now (iv .entry)) (now (text .entry)) (now (label .entry)))
-        (length (now (out .entry))) (now (tag .entry))) ⌝ }
+    ensures { λ r. ⌜ Seals kmacAead (sealArguments (now (key .entry)) (now (iv .entry)) (now (text .entry)) (now (label .entry)))
+        (now (out .entry)) (now (tag .entry)) r (now (out .exit)) (now (tag .exit)) ⌝ }
 {
     let number = lengths_refusal(
         LEAST_SEALED,
@@ -67,10 +62,8 @@ pub fn open(
     out: &mut [u8],
     tag: &[u8],
 ) -> Outcome
-    ensures { λ r. ⌜ (r ≡ opened kmacAead (sealArguments (now (key .entry)) (now (iv .entry)) (now (ciphertext .entry)) (now (label .entry)))
-        (length (now (out .entry))) (now (tag .entry)))
-        × (now (out .exit) ≡ openedText kmacAead (sealArguments (now (key .entry)) (now (iv .entry)) (now (ciphertext .entry)) (now (label .entry)))
-        (now (out .entry)) (now (tag .entry))) ⌝ }
+    ensures { λ r. ⌜ OpensInto kmacAead (sealArguments (now (key .entry)) (now (iv .entry)) (now (ciphertext .entry)) (now (label .entry)))
+        (now (out .entry)) (now (tag .entry)) r (now (out .exit)) ⌝ }
 {
     let number = lengths_refusal(
         LEAST_OPENED,
@@ -86,7 +79,7 @@ pub fn open(
     }
     let stream = begin_stream(key, iv, ciphertext.len());
     let authentication = stream.authentication;
-    let mut expected = [0u8; 64];
+    let mut expected = [0u8; LONGEST_TAG];
     let tag_runs = make_tag(&authentication, ciphertext, label, &mut expected);
     if same_beginning(tag, &expected) {
         let mut lanes = stream.lanes;
