@@ -31,5 +31,5 @@ pub extern "C" fn hf_open(
     ensures { λ r. ⌜ OpensInto kmacAead (sealArguments (now (key .entry)) (now (iv .entry)) (now (ciphertext .entry)) (now (label .entry)))
         (now (out .entry)) (now (tag .entry)) r (now (out .exit)) ⌝ }
 {
-    seal::open(key, iv, ciphertext, label, out, tag)
+    open::open(key, iv, ciphertext, label, out, tag)
 }

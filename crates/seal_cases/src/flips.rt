@@ -38,7 +38,7 @@ fn seal_parts(all: &[u8], out: &mut [u8], tag: &mut [u8]) -> Outcome {
 }
 
 fn open_parts(all: &[u8], out: &mut [u8]) -> Outcome {
-    seal::open(
+    open::open(
         first(all, 32),
         part(all, 32, 12),
         part(all, 44, 20),

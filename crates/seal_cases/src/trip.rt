@@ -86,7 +86,7 @@ fn open_into(of: Lengths, ciphertext: &[u8], tag: &[u8], out: &mut [u8]) -> Outc
     let key = key();
     let iv = iv();
     let label = label();
-    seal::open(
+    open::open(
         first(&key, of.key),
         first(&iv, of.iv),
         first(ciphertext, of.text),

@@ -28,16 +28,6 @@ entry c = starting c .before .before .before .before .before
 key-length : tie.Need-slice-aggregate-start-named-2
 key-length c = search needs
 
--- lengths fit
-sizes : (c : tie.After-struct-known) → (length (entry c .args .seed .now) < 2 ^ 64) × (length (entry c .args .personalisation .now) < 2 ^ 64)
-sizes c = (omega arith, omega arith)
-
-add-t16 : tie.Need-add-t16
-add-t16 c =
-    let a = entry c .args in
-    runs-fit _ _ (a .seed .now) (a .personalisation .now) (start-bounded (starting c .start-named .ensures)) (messaging c .absorb-message .ensures .blocks)
-    (sizes c .0) (sizes c .1)
-
 returns : tie.Need-returns
 returns c =
     let a = entry c .args in
@@ -52,6 +42,16 @@ returns c =
           ∙ message-output call (start .result) (start .ensures) ok _ (message .last .0) (message .result) is (message .ensures) keyBytes;
       runs = omega (arith, message-runs call (start .result) (start .ensures) ok _ (message .last .0) (message .result) is (message .ensures));
     }
+
+-- lengths fit
+sizes : (c : tie.After-struct-known) → (length (entry c .args .seed .now) < 2 ^ 64) × (length (entry c .args .personalisation .now) < 2 ^ 64)
+sizes c = (omega arith, omega arith)
+
+add-t16 : tie.Need-add-t16
+add-t16 c =
+    let a = entry c .args in
+    runs-fit _ _ (a .seed .now) (a .personalisation .now) (start-bounded (starting c .start-named .ensures)) (messaging c .absorb-message .ensures .blocks)
+    (sizes c .0) (sizes c .1)
 
 pub new-key-spec : {M : Type 1} → statement M
 new-key-spec =

@@ -26,6 +26,22 @@ starting c = messaging c .before .before .before .before
 abbrev entry : tie.After-struct-known → tie.Start
 entry c = starting c .before .before .before .before .before .before
 
+returns : tie.Need-returns
+returns c =
+    let s = c .before in
+    let a = entry s .args in
+    let k = a .authentication .now in
+    let m = a .ciphertext .now ++ a .label .now in
+    let t = length (a .tag .now) in
+    let start = starting s .start-keyed in
+    let message = messaging s .absorb-message in
+    let b = message .last .0 in
+    record {
+      is = squeezing s .squeeze .ensures .1 ∙ ap (squeezed t) (xof-running k [] m b (start .result) (message .result) (start .ensures) (message .ensures));
+      runs = xof-runs k [] m b (start .result) (message .result) (start .ensures) (message .ensures) t (c .output-runs .result) (c .output-runs .ensures);
+      bounded = started-bounded k [] m b (start .result) (message .result) (start .ensures) (message .ensures);
+    }
+
 -- lengths fit
 sizes : (k : tie.After-slice-known)
     → (length (k .before .before .before .before .args .ciphertext .now) < 2 ^ 64) × (length (k .before .before .before .before .args .label .now) < 2 ^ 64)
@@ -44,22 +60,6 @@ add-result-2 c =
     let size = sizes (starting s .before .before) in
     runs-fit _ _ (entry s .args .ciphertext .now) (entry s .args .label .now) (start-bounded (starting s .start-keyed .ensures))
     (messaging s .absorb-message .ensures .blocks) (size .0) (size .1) _ _ (c .output-runs .ensures) (size .2)
-
-returns : tie.Need-returns
-returns c =
-    let s = c .before in
-    let a = entry s .args in
-    let k = a .authentication .now in
-    let m = a .ciphertext .now ++ a .label .now in
-    let t = length (a .tag .now) in
-    let start = starting s .start-keyed in
-    let message = messaging s .absorb-message in
-    let b = message .last .0 in
-    record {
-      is = squeezing s .squeeze .ensures .1 ∙ ap (squeezed t) (xof-running k [] m b (start .result) (message .result) (start .ensures) (message .ensures));
-      runs = xof-runs k [] m b (start .result) (message .result) (start .ensures) (message .ensures) t (c .output-runs .result) (c .output-runs .ensures);
-      bounded = started-bounded k [] m b (start .result) (message .result) (start .ensures) (message .ensures);
-    }
 
 pub make-tag-spec : {M : Type 1} → statement M
 make-tag-spec =

@@ -1,4 +1,4 @@
--- Past the lengths' number the tag is worked out afresh and compared; only then is the text combined with the stream (`Steps.opens`).
+-- Past the lengths' number the tag is worked out afresh and compared; only then is the text combined with the stream (`Opening.opens`).
 use mathlib.Core.Path.{_≡_, refl, sym, _∙_}
 use mathlib.Core.Bool.{Bool, true, false}
 use Prim.Native.Nat.{_+_, _≤_}
@@ -12,11 +12,11 @@ use Rattle.aead.specs.Refusals.{WithinLimits, openLengthsRefusal}
 use Rattle.aead.specs.Answers.{OpensInto}
 use Rattle.aead.proofs.Refusals.{lengths-accepted}
 use Rattle.aead.proofs.Answers.{answer, open-refused, open-mismatch}
 use Rattle.seal.specs.Kmac.{kmacAead}
 use Rattle.seal.proofs.StreamAndTag.{Streams, Tags, streams, tags, counts-fit}
-use Rattle.seal.proofs.Steps.{compares, opens}
-use Rattle.seal.proofs.open.Statement.{statement}
-use Rattle.seal.proofs.open.Tie as tie
+use Rattle.open.proofs.Opening.{compares, opens}
+use Rattle.open.proofs.open.Statement.{statement}
+use Rattle.open.proofs.open.Tie as tie
 
 -- the places of the calls, from the last on
 abbrev combining : tie.After-struct-known → tie.After-combine-stream
