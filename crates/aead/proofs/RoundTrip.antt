@@ -136,7 +136,8 @@ module _ (c : Construction) (h : Lawful c) (a : SealArguments) where
         let low : c .leastOpened ≤ t = omega (arith, h .leastTags, w .leastTag) in
         let lengths : openLengthsRefusal c sealedArguments m (length (tagOf c a ciphertext t)) ≡ 0
         = (λ i. lengthsRefusal (c .leastOpened) (length (a .key)) (length (a .iv)) (same-length i) (length (a .label)) (same i) (tag-length i))
-        ∙ lengths-within (c .leastSealed) (length (a .key)) (length (a .iv)) (length (a .text)) (length (a .label)) n t (c .leastOpened) t w low (w .longTag) in
+        ∙ lengths-within (c .leastSealed) (length (a .key)) (length (a .iv)) (length (a .text)) (length (a .label)) n t (c .leastOpened) t w low
+        (w .longTag) in
         accepted c sealedArguments m (tagOf c a ciphertext t) lengths same-tag
 
 pub opens-what-was-sealed : (c : Construction) → Lawful c → OpensWhatWasSealed c
@@ -164,7 +165,8 @@ cut-tags-open c h a before tag m e low high =
     let cut : take m tag ≡ tagOf c a (a .text) m = ap (take m) (o .1) ∙ h .tagCut (authenticationKey c a) (a .text) (a .label) m (length tag) high in
     let short : m ≤ longestTag = omega (arith, w .longTag) in
     let lengths : openLengthsRefusal c a n m ≡ 0
-    = lengths-within (c .leastOpened) (length (a .key)) (length (a .iv)) (length (a .text)) (length (a .label)) n (length tag) (c .leastOpened) m w low short in
+    = lengths-within (c .leastOpened) (length (a .key)) (length (a .iv)) (length (a .text)) (length (a .label)) n (length tag) (c .leastOpened) m w low
+    short in
     let ok : openRefusal c a n (take m tag) ≡ 0
     = accepted c a n (take m tag) (ap (openLengthsRefusal c a n) k ∙ lengths) (cut ∙ ap (tagOf c a (a .text)) (sym k)) in
     (ok, ap (λ (j : ℕ). ifDone j (combinedText c a) before) (ok ∙ sym e))

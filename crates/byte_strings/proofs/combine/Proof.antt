@@ -21,8 +21,9 @@ loop-holds c = (c .shorter .ensures, omega arith, refl, refl)
 
 loop-again : tie.Need-loop-again Inv-loop μ-loop
 loop-again c =
-    let k = c .before .before .before .loop in
-    let a = c .before .before .before .before .before .before .before .args in
+    let at = c .before .before .before in
+    let k = at .loop in
+    let a = at .before .before .before .before .args in
     let text = a .text .now in
     let ht : k .i < length text = omega arith in
     let ho : k .i < length (k .out) = omega arith in
