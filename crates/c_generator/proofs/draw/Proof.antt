@@ -1,5 +1,5 @@
 -- The entry's own answer to the imported state, exported: its equations hold of every state, and so of the imported one. They are joined without naming a
--- place, whatever calls come before.
+-- place, so that a draw by other calls is refused for its answer.
 use borrow.Author.Needs.{needs}
 use Rattle.c_generator.proofs.draw.Statement.{statement}
 use Rattle.c_generator.proofs.draw.Tie as tie
