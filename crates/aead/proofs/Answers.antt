@@ -10,7 +10,7 @@ use Rattle.answers.specs.Done.{ifDone, firstOf, outcomeOf}
 use Rattle.calls.specs.Start.{sameBytes}
 use Rattle.aead.specs.Aead.{SealArguments, Construction, combinedText, tagOf, sealRuns}
 use Rattle.aead.specs.Refusals.{sealRefusal, openLengthsRefusal, openRefusal}
-use Rattle.aead.specs.Answers.{sealed, sealedText, sealedTag, opened, openedText}
+use Rattle.aead.specs.Answers.{sealed, sealedText, sealedTag, Seals, opened, openedText, OpensInto}
 
 -- number and runs
 abbrev pub answer : ℕ → ℕ → Outcome
@@ -19,51 +19,42 @@ answer k r = record { number = k; runs = r }
 module _ (c : Construction) (a : SealArguments) (before tag : List ℕ) where
   -- ---- sealing
 
-  pub record Seals (o : Outcome) (out made : List ℕ) : Type 0 where
-    pub outcome : o ≡ sealed c a (length before) (length tag)
-    pub text : out ≡ sealedText c a before (length tag)
-    pub handed : made ≡ sealedTag c a (length before) tag
-
-  pub seal-refused : (k : ℕ) → k ≡ sealRefusal c a (length before) (length tag) → (k ≡ 0 → ⊥) → Seals (answer k 0) before tag
+  pub seal-refused : (k : ℕ) → k ≡ sealRefusal c a (length before) (length tag) → (k ≡ 0 → ⊥) → Seals c a before tag (answer k 0) before tag
   unfolding sealed sealedText sealedTag
   seal-refused zero e some = absurd (some refl)
   seal-refused (suc k) e some =
       record {
-        outcome = ap (λ (n : ℕ). outcomeOf n (sealRuns c a (combinedText c a) (length tag))) e;
+        answer = ap (λ (n : ℕ). outcomeOf n (sealRuns c a (combinedText c a) (length tag))) e;
         text = ap (λ (n : ℕ). ifDone n (combinedText c a) before) e;
-        handed = ap (λ (n : ℕ). ifDone n (tagOf c a (combinedText c a) (length tag)) tag) e;
+        tag = ap (λ (n : ℕ). ifDone n (tagOf c a (combinedText c a) (length tag)) tag) e;
       }
 
   pub seal-accepted : (r : ℕ) (out made : List ℕ) → 0 ≡ sealRefusal c a (length before) (length tag)
       → r ≡ sealRuns c a (combinedText c a) (length tag) → out ≡ combinedText c a → made ≡ tagOf c a (combinedText c a) (length tag)
-      → Seals (answer 0 r) out made
+      → Seals c a before tag (answer 0 r) out made
   unfolding sealed sealedText sealedTag
   seal-accepted r out made e counted text is =
       record {
-        outcome = ap (answer 0) counted ∙ ap (λ (n : ℕ). outcomeOf n (sealRuns c a (combinedText c a) (length tag))) e;
+        answer = ap (answer 0) counted ∙ ap (λ (n : ℕ). outcomeOf n (sealRuns c a (combinedText c a) (length tag))) e;
         text = text ∙ ap (λ (n : ℕ). ifDone n (combinedText c a) before) e;
-        handed = is ∙ ap (λ (n : ℕ). ifDone n (tagOf c a (combinedText c a) (length tag)) tag) e;
+        tag = is ∙ ap (λ (n : ℕ). ifDone n (tagOf c a (combinedText c a) (length tag)) tag) e;
       }
 
   -- ---- opening
-
-  pub record OpensInto (o : Outcome) (out : List ℕ) : Type 0 where
-    pub outcome : o ≡ opened c a (length before) tag
-    pub text : out ≡ openedText c a before tag
 
   abbrev expected : List ℕ
   expected = tagOf c a (a .text) (length tag)
 
   open-answered : (k r : ℕ) (out : List ℕ) → k ≡ openRefusal c a (length before) tag → r ≡ ifDone k (sealRuns c a (a .text) (length tag)) 0
-      → out ≡ ifDone k (combinedText c a) before → OpensInto (answer k r) out
+      → out ≡ ifDone k (combinedText c a) before → OpensInto c a before tag (answer k r) out
   unfolding opened openedText
   open-answered k r out e counted is =
       record {
-        outcome = ap (answer k) counted ∙ ap (λ (n : ℕ). outcomeOf n (sealRuns c a (a .text) (length tag))) e;
+        answer = ap (answer k) counted ∙ ap (λ (n : ℕ). outcomeOf n (sealRuns c a (a .text) (length tag))) e;
         text = is ∙ ap (λ (n : ℕ). ifDone n (combinedText c a) before) e;
       }
 
-  pub open-refused : (k : ℕ) → k ≡ openLengthsRefusal c a (length before) (length tag) → (k ≡ 0 → ⊥) → OpensInto (answer k 0) before
+  pub open-refused : (k : ℕ) → k ≡ openLengthsRefusal c a (length before) (length tag) → (k ≡ 0 → ⊥) → OpensInto c a before tag (answer k 0) before
   unfolding openRefusal
   open-refused zero e some = absurd (some refl)
   open-refused (suc k) e some =
@@ -75,9 +66,9 @@ module _ (c : Construction) (a : SealArguments) (before tag : List ℕ) where
     compared b h =
         ap (λ (t : Bool). cond t done tagMismatch) h ∙ ap (λ (n : ℕ). firstOf n (cond (sameBytes tag expected) done tagMismatch)) e
 
-    pub open-mismatch : false ≡ sameBytes tag expected → OpensInto (answer tagMismatch 0) before
+    pub open-mismatch : false ≡ sameBytes tag expected → OpensInto c a before tag (answer tagMismatch 0) before
     open-mismatch h = open-answered tagMismatch 0 before (compared false h) refl refl
 
     pub open-accepted : (r : ℕ) (out : List ℕ) → true ≡ sameBytes tag expected → r ≡ sealRuns c a (a .text) (length tag)
-        → out ≡ combinedText c a → OpensInto (answer 0 r) out
+        → out ≡ combinedText c a → OpensInto c a before tag (answer 0 r) out
     open-accepted r out h counted is = open-answered 0 r out (compared true h) counted is

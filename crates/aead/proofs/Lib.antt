@@ -1,5 +1,3 @@
-pub mod Combining
-pub mod Comparing
 pub mod Refusals
 pub mod Answers
 pub mod RoundTrip

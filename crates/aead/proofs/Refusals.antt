@@ -9,16 +9,7 @@ use Rattle.answers.specs.Laws.{test-passed}
 use Rattle.answers.specs.Numbers.{done, badKeyLength, stringTooLong, inputTooLong, badOutputLength, badTagLength}
 use Rattle.calls.specs.Limits.{maxCustomisation, maxMessage}
 use Rattle.aead.specs.Limits.{sealingKeyLength, longestTag}
-use Rattle.aead.specs.Refusals.{lengthsRefusal}
-
--- lengths of key, IV, text, label, output and tag that are not refused
-pub record WithinLimits (least k i x l o t : ℕ) : Type 0 where
-  pub key : k ≡ sealingKeyLength
-  pub iv : i ≤ maxCustomisation
-  pub input : x + l ≤ maxMessage
-  pub output : o ≡ x
-  pub leastTag : least ≤ t
-  pub longTag : t ≤ longestTag
+use Rattle.aead.specs.Refusals.{lengthsRefusal, WithinLimits}
 
 neither : (a b : Bool) → (a || b) ≡ false → (a ≡ false) × (b ≡ false)
 neither true b e = (e, cc)

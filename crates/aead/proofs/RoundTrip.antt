@@ -11,13 +11,25 @@ use Rattle.answers.specs.Numbers.{done, tagMismatch}
 use Rattle.answers.specs.Done.{ifDone, firstOf, outcomeOf}
 use Rattle.calls.specs.Start.{sameBytes}
 use Rattle.calls.specs.Laws.Refusal.{sameBytes-equal, sameBytes-self}
-use Rattle.aead.specs.Limits.{authenticationKeyLength}
-use Rattle.aead.specs.Aead.{SealArguments, Construction, Lawful, combined, authenticationKey, textStream, combinedText, tagOf, sealRuns}
+use Rattle.byte_strings.specs.Combined.{combined}
+use Rattle.byte_strings.proofs.Combining.{length-combined, combined-twice}
+use Rattle.aead.specs.Limits.{authenticationKeyLength, longestTag}
+use Rattle.aead.specs.Aead.{SealArguments, Construction, Lawful, authenticationKey, textStream, combinedText, tagOf, sealRuns}
 use Rattle.aead.specs.Refusals.{lengthsRefusal, sealRefusal, openLengthsRefusal, openRefusal}
 use Rattle.aead.specs.Answers.{sealed, sealedText, sealedTag, opened, openedText}
-use Rattle.aead.specs.RoundTrip.{withText, Accepts, AcceptsExactly, Opens, OpensWhatWasSealed, CutTagsOpen}
-use Rattle.aead.proofs.Combining.{length-combined, combined-twice}
-use Rattle.aead.proofs.Refusals.{WithinLimits, lengths-accepted, lengths-within}
+use Rattle.aead.specs.RoundTrip.{SealsWithinLimits, withText, AcceptsExactly, OpensWhatWasSealed, CutTagsOpen}
+use Rattle.aead.proofs.Refusals.{lengths-accepted, lengths-within}
+
+-- ---- sealing is done exactly within the limits
+
+pub seals-within-limits : (c : Construction) → SealsWithinLimits c
+unfolding sealed
+seals-within-limits c a n t =
+    let k : ℕ = length (a .key) in
+    let i : ℕ = length (a .iv) in
+    let x : ℕ = length (a .text) in
+    let l : ℕ = length (a .label) in
+    (lengths-accepted (c .leastSealed) k i x l n t, λ w. lengths-within (c .leastSealed) k i x l n t (c .leastSealed) t w (w .leastTag) (w .longTag))
 
 -- ---- opening is done exactly for the tag that is worked out afresh
 
@@ -124,7 +136,8 @@ module _ (c : Construction) (h : Lawful c) (a : SealArguments) where
         let low : c .leastOpened ≤ t = omega (arith, h .leastTags, w .leastTag) in
         let lengths : openLengthsRefusal c sealedArguments m (length (tagOf c a ciphertext t)) ≡ 0
         = (λ i. lengthsRefusal (c .leastOpened) (length (a .key)) (length (a .iv)) (same-length i) (length (a .label)) (same i) (tag-length i))
-        ∙ lengths-within (c .leastSealed) (length (a .key)) (length (a .iv)) (length (a .text)) (length (a .label)) n t (c .leastOpened) t w low (w .longTag) in
+        ∙ lengths-within (c .leastSealed) (length (a .key)) (length (a .iv)) (length (a .text)) (length (a .label)) n t (c .leastOpened) t w low
+        (w .longTag) in
         accepted c sealedArguments m (tagOf c a ciphertext t) lengths same-tag
 
 pub opens-what-was-sealed : (c : Construction) → Lawful c → OpensWhatWasSealed c
@@ -150,9 +163,10 @@ cut-tags-open c h a before tag m e low high =
     let w = lengths-accepted (c .leastOpened) (length (a .key)) (length (a .iv)) (length (a .text)) (length (a .label)) n (length tag) (o .0) in
     let k : length (take m tag) ≡ m = length-take-le m tag high in
     let cut : take m tag ≡ tagOf c a (a .text) m = ap (take m) (o .1) ∙ h .tagCut (authenticationKey c a) (a .text) (a .label) m (length tag) high in
-    let short : m ≤ 64 = omega (arith, w .longTag) in
+    let short : m ≤ longestTag = omega (arith, w .longTag) in
     let lengths : openLengthsRefusal c a n m ≡ 0
-    = lengths-within (c .leastOpened) (length (a .key)) (length (a .iv)) (length (a .text)) (length (a .label)) n (length tag) (c .leastOpened) m w low short in
+    = lengths-within (c .leastOpened) (length (a .key)) (length (a .iv)) (length (a .text)) (length (a .label)) n (length tag) (c .leastOpened) m w low
+    short in
     let ok : openRefusal c a n (take m tag) ≡ 0
     = accepted c a n (take m tag) (ap (openLengthsRefusal c a n) k ∙ lengths) (cut ∙ ap (tagOf c a (a .text)) (sym k)) in
     (ok, ap (λ (j : ℕ). ifDone j (combinedText c a) before) (ok ∙ sym e))

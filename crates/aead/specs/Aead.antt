@@ -1,9 +1,9 @@
 -- Sealing by a key stream and a tag, whatever makes the two (KMAC AEAD, 1.2.2 to 1.2.5; docs/RULES.md, 'Sealing').
 use mathlib.Core.Path.{_≡_}
-use mathlib.Core.List.{List, [], _∷_}
+use mathlib.Core.List.{List}
 use Prim.Native.Nat.{ℕ, _+_, _≤_}
-use lib.Bits.{bitXor}
 use lib.ListN.{length, take, drop}
+use Rattle.byte_strings.specs.Combined.{combined}
 use Rattle.aead.specs.Limits.{authenticationKeyLength}
 
 -- what sealing and opening are handed: the text is the one to be sealed, or the one to be opened; the label is the additional authenticated data
@@ -35,12 +35,6 @@ pub record Lawful (c : Construction) : Type 0 where
   pub tagCut : (authentication ciphertext label : List ℕ) (m t : ℕ) → m ≤ t
       → take m (c .tag authentication ciphertext label t) ≡ c .tag authentication ciphertext label m
   pub leastTags : c .leastOpened ≤ c .leastSealed
-
--- a text combined with a stream by exclusive or, byte for byte; a stream that is longer stands as it is beyond the text
-unfoldable pub combined : List ℕ → List ℕ → List ℕ
-combined [] stream = stream
-combined (x ∷ text) [] = []
-combined (x ∷ text) (k ∷ stream) = bitXor x k ∷ combined text stream
 
 module _ (c : Construction) (a : SealArguments) where
   -- the length of the key stream: the authentication key and a byte for each of the text

@@ -1,4 +1,5 @@
--- What sealing and opening answer, and what the lent output and tag then hold.
+-- What sealing and opening answer, and what the lent output and tag then hold: `Seals` and `OpensInto` are the contracts of the entries.
+use mathlib.Core.Path.{_≡_}
 use mathlib.Core.List.{List}
 use Prim.Native.Nat.{ℕ}
 use lib.ListN.{length}
@@ -24,3 +25,14 @@ module _ (c : Construction) (a : SealArguments) where
 
   unfoldable pub openedText : (before tag : List ℕ) → List ℕ
   openedText before tag = ifDone (openRefusal c a (length before) tag) (combinedText c a) before
+
+  -- sealing where the lent output and tag held `before` and `held`: the answer, and what was written and made there
+  pub record Seals (before held : List ℕ) (r : Outcome) (written made : List ℕ) : Type 0 where
+    pub answer : r ≡ sealed (length before) (length held)
+    pub text : written ≡ sealedText before (length held)
+    pub tag : made ≡ sealedTag (length before) held
+
+  -- opening with a tag where the lent output held `before`
+  pub record OpensInto (before tag : List ℕ) (r : Outcome) (written : List ℕ) : Type 0 where
+    pub answer : r ≡ opened (length before) tag
+    pub text : written ≡ openedText before tag

@@ -1,7 +1,8 @@
 -- What sealing and opening are refused for (docs/RULES.md, 'Numbers').
+use mathlib.Core.Path.{_≡_}
 use mathlib.Core.Bool.{cond, not, _||_}
 use mathlib.Core.List.{List}
-use Prim.Native.Nat.{ℕ, _+_}
+use Prim.Native.Nat.{ℕ, _+_, _≤_}
 use lib.Dec.{eqb, ltb}
 use lib.ListN.{length}
 use Rattle.answers.specs.Numbers.{done, badKeyLength, stringTooLong, inputTooLong, badOutputLength, badTagLength, tagMismatch}
@@ -19,6 +20,15 @@ lengthsRefusal least key iv text label out tag =
     (cond (ltb maxMessage (text + label)) inputTooLong
     (cond (not (eqb out text)) badOutputLength
     (cond (ltb tag least || ltb longestTag tag) badTagLength done))))
+
+-- lengths k, i, x, l, o and t of the same that are not refused (`SealsWithinLimits` of RoundTrip.antt)
+pub record WithinLimits (least k i x l o t : ℕ) : Type 0 where
+  pub key : k ≡ sealingKeyLength
+  pub iv : i ≤ maxCustomisation
+  pub input : x + l ≤ maxMessage
+  pub output : o ≡ x
+  pub leastTag : least ≤ t
+  pub longTag : t ≤ longestTag
 
 -- for an output of n bytes and a tag of t
 abbrev pub refusalBy : (least : ℕ) → SealArguments → (n t : ℕ) → ℕ

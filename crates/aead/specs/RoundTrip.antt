@@ -6,7 +6,7 @@ use Prim.Native.Nat.{ℕ, _≤_}
 use lib.ListN.{length, take}
 use Rattle.answers.specs.Numbers.{done, tagMismatch}
 use Rattle.aead.specs.Aead.{SealArguments, sealArguments, Construction, tagOf}
-use Rattle.aead.specs.Refusals.{openLengthsRefusal}
+use Rattle.aead.specs.Refusals.{WithinLimits, openLengthsRefusal}
 use Rattle.aead.specs.Answers.{sealed, sealedText, sealedTag, opened, openedText}
 
 -- the same key, IV and label with another text
@@ -14,6 +14,12 @@ abbrev pub withText : SealArguments → List ℕ → SealArguments
 withText a text = sealArguments (a .key) (a .iv) text (a .label)
 
 module _ (c : Construction) where
+  -- sealing is done exactly if the lengths keep the limits
+  abbrev pub SealsWithinLimits : Type 0
+  SealsWithinLimits =
+      (a : SealArguments) (n t : ℕ)
+      → (sealed c a n t .number ≡ done) ↔ WithinLimits (c .leastSealed) (length (a .key)) (length (a .iv)) (length (a .text)) (length (a .label)) n t
+
   -- once the length checks are passed, opening is done exactly if the tag equals the one worked out afresh; any other is a mismatch, and nothing is written
   pub record Accepts (a : SealArguments) (before tag : List ℕ) : Type 0 where
     pub exactly : (opened c a (length before) tag .number ≡ done) ↔ (tag ≡ tagOf c a (a .text) (length tag))

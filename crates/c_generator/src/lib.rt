@@ -8,10 +8,11 @@ ghost use Rattle.generator.specs.Cshake.{cshakeDrng};
 ghost use Rattle.c_generator.specs.Generator.{importedGenerator, exportedGenerator, exportedAnswer};
 use drng::Generator;
 use drng::GeneratorAnswer;
+use drng::KEY_BYTES;
 
 #[repr(C)]
 pub struct CGenerator {
-    pub key: [u8; 64],
+    pub key: [u8; KEY_BYTES],
     // 0 is never seeded.
     pub seeded: u8,
 }

@@ -35,7 +35,7 @@ fn call(input: &[u8], it: &[u8], letter: u8, out: &mut [u8], tag: &mut [u8]) -> 
     let label = case::string(input, it, case::FOURTH);
     match letter {
         b'l' | b'L' => seal::seal(key, iv, text, label, out, tag),
-        _ => seal::open(key, iv, text, label, out, behind(input, it, tag.len())),
+        _ => open::open(key, iv, text, label, out, behind(input, it, tag.len())),
     }
 }
 

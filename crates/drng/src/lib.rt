@@ -12,8 +12,11 @@ use calls::MAX_OUTPUT;
 // The limit of `calls`, specs/Limits.antt.
 pub const MAX_ADDITIONAL: usize = 84;
 
+// The bytes of a key: `keyBytes` of `seeding`, specs/Seeding.antt.
+pub const KEY_BYTES: usize = 64;
+
 pub struct Generator {
-    pub key: [u8; 64],
+    pub key: [u8; KEY_BYTES],
     // Whether it was ever seeded.
     pub seeded: bool,
 }
@@ -30,7 +33,7 @@ pub fn fresh() -> Generator
     ensures { λ r. ⌜ r ≡ freshGenerator ⌝ }
 {
     Generator {
-        key: [0u8; 64],
+        key: [0u8; KEY_BYTES],
         seeded: false,
     }
 }
@@ -47,7 +50,7 @@ pub fn refuse(number: u8, generator: Generator) -> GeneratorAnswer
 }
 
 // A step that is done: its runs, and a seeded state with its key.
-pub fn accept(runs: usize, key: [u8; 64]) -> GeneratorAnswer
+pub fn accept(runs: usize, key: [u8; KEY_BYTES]) -> GeneratorAnswer
     ensures { λ r. ⌜ r ≡ accepted runs key ⌝ }
 {
     GeneratorAnswer {

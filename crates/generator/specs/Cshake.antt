@@ -1,5 +1,5 @@
 -- The cSHAKE generator: its keys and its pieces are made by cSHAKE256 (cSHAKE-DRNG, 1.1.3 and 1.1.4; docs/RULES.md, 'Generator').
-use mathlib.Core.List.{List, [], _∷_}
+use mathlib.Core.List.{List}
 use Prim.Native.Nat.{ℕ, _+_}
 use lib.ListN.{take, drop}
 use Rattle.encode.specs.Encode.{lengthSuffixed}
@@ -9,11 +9,7 @@ use Rattle.sponge.specs.Sponge.{sponge}
 use Rattle.seeding.specs.Seeding.{keyBytes, seedCall}
 use Rattle.pieces.specs.Pieces.{Generated, pieceBytes}
 use Rattle.drng.specs.Drng.{Drng}
-
--- `cSHAKE-DRNG generate`
-abbrev pub generateName : List ℕ
-generateName =
-    0x63 ∷ 0x53 ∷ 0x48 ∷ 0x41 ∷ 0x4b ∷ 0x45 ∷ 0x2d ∷ 0x44 ∷ 0x52 ∷ 0x4e ∷ 0x47 ∷ 0x20 ∷ 0x67 ∷ 0x65 ∷ 0x6e ∷ 0x65 ∷ 0x72 ∷ 0x61 ∷ 0x74 ∷ 0x65 ∷ []
+use Rattle.generator_calls.specs.GeneratorCalls.{generateName}
 
 -- the call that a piece is made of: X is the additional input and one byte with its length
 abbrev pub pieceCall : (additional key : List ℕ) → Call cSHAKE256

@@ -1,19 +1,13 @@
 -- The edges of a seeding and of a draw (docs/RULES.md, 'Numbers' and 'Facts'), and why a piece counts 3: it is the count of its cSHAKE256 call.
-use mathlib.Core.Path.{_≡_, refl, _∙_}
+-- proofs/Facts.antt proves them.
+use mathlib.Core.Path.{_≡_}
 use mathlib.Core.Bool.{true, false}
-use mathlib.Core.List.{List, [], _++_}
-use Prim.Native.Nat.{ℕ, _+_, _/_, _≤_}
-use native.Mathlib.Omega.{arith}
-use lib.ListN.{length, replicate, length-append}
-use Rattle.encode.specs.Digits.{widthIn}
-use Rattle.encode.specs.Padding.{padTo, withLastBit, padded}
-use Rattle.encode.specs.Encode.{lengthSuffixed, bigEndian, leftEncode, encodeString, bytepad}
-use Rattle.calls.specs.Input.{fedBytes}
-use Rattle.calls.specs.Call.{fed}
+use mathlib.Core.List.{List, []}
+use Prim.Native.Nat.{ℕ, _≤_}
+use lib.ListN.{length, replicate}
+use Rattle.calls.specs.Limits.{maxAdditional}
 use Rattle.calls.specs.Count.{runs}
-use Rattle.calls.specs.Laws.Runs.{runs-by-lengths}
-use Rattle.seeding.specs.Seeding.{keyBytes, seedLengthsRefusal}
-use Rattle.pieces.specs.Pieces.{pieceCount}
+use Rattle.seeding.specs.Seeding.{keyBytes}
 use Rattle.drng.specs.State.{freshGenerator}
 use Rattle.drng.specs.Drng.{drawRefusal, drawRuns, seedAnswer}
 use Rattle.generator.specs.Cshake.{pieceCall, cshakeDrng}
@@ -30,29 +24,6 @@ pub record GeneratorFacts : Type 0 where
   pub count209 : drawRuns cshakeDrng 209 ≡ 6
   pub seedCount : seedAnswer cshakeDrng freshGenerator [] [] .runs ≡ 2
   pub noSeedCount : seedAnswer cshakeDrng freshGenerator [] (replicate 85 0) .runs ≡ 0
-
-pub generatorFacts : GeneratorFacts
-unfolding drawRefusal drawRuns pieceCount seedAnswer seedLengthsRefusal runs fed fedBytes padded withLastBit padTo bytepad encodeString leftEncode
-    bigEndian widthIn
-generatorFacts =
-    record {
-      unseeded = refl;
-      unseededFirst = refl;
-      additional84 = refl;
-      additional85 = refl;
-      output = refl;
-      longOutput = refl;
-      count0 = refl;
-      count208 = refl;
-      count209 = refl;
-      seedCount = refl;
-      noSeedCount = refl;
-    }
-
--- a block of name and key, a block of additional input, and a block of output more
-pub piece-runs : (additional key : List ℕ) → length additional ≤ 84 → length key ≡ keyBytes → runs (pieceCall additional key) ≡ cshakeDrng .pieceRuns
-unfolding widthIn
-piece-runs additional key fits size =
-    let x : length (lengthSuffixed additional) ≡ length additional + 1 = simp length-append in
-    let m : (length (lengthSuffixed additional) + 0) / 136 ≡ 0 = omega arith in
-    runs-by-lengths (pieceCall additional key) ∙ rw (size, m)
+  -- a block of name and key, a block of additional input, and a block of output more
+  pub pieceRuns : (additional key : List ℕ) → length additional ≤ maxAdditional → length key ≡ keyBytes
+      → runs (pieceCall additional key) ≡ cshakeDrng .pieceRuns

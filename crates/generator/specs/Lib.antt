@@ -1,4 +1,3 @@
 -- The generator; then facts by computation.
 pub mod Cshake
 pub mod Facts
-pub mod Private

@@ -2,48 +2,24 @@
 // was and writes nothing.
 ghost use mathlib.Core.Path.{_≡_};
 ghost use Prim.Native.Nat.{_≤_};
-ghost use lib.ListN.{length, take};
-ghost use Rattle.calls.specs.Limits.{maxAdditional, maxPersonalisation, maxSeed};
-ghost use Rattle.pieces.specs.Pieces.{pieceBytes, drawn};
-ghost use Rattle.drng.specs.Drng.{seeding, seedAnswer, drawAnswer, drawOutput};
+ghost use lib.ListN.{length};
+ghost use Rattle.calls.specs.Limits.{maxAdditional};
+ghost use Rattle.pieces.specs.Pieces.{drawn};
+ghost use Rattle.drng.specs.Drng.{seedAnswer, drawAnswer, drawOutput};
 ghost use Rattle.generator.specs.Cshake.{generate, cshakeDrng};
-ghost use Rattle.generator.specs.Private.{Reseeds};
 use answers::DONE;
 use drng::Generator;
 use drng::GeneratorAnswer;
+use drng::KEY_BYTES;
 use drng::accept;
 use drng::draw_refusal;
 use drng::refuse;
-use message::absorb_message;
+use generator_calls::new_key;
+use generator_calls::piece;
 use seeding::seed_refusal;
-use sponge::squeeze;
-use start::start_named;
 
 // The permutations of a piece.
 const PIECE_RUNS: usize = 3;
-
-// A key made by a seeding, and the seeding's permutations.
-struct NewKey {
-    key: [u8; 64],
-    runs: usize,
-}
-
-// The key made of the old one, the seed and encode(personalisation), which ends in a byte with its length (1.1.2 and 1.1.3).
-fn new_key(old: [u8; 64], seed: &[u8], personalisation: &[u8]) -> NewKey
-    requires { ⌜ (length (now seed) ≤ maxSeed) × (length (now personalisation) ≤ maxPersonalisation) ⌝ }
-    ensures { λ r. ⌜ Reseeds (seeding old (now (seed .entry)) (now (personalisation .entry))) r ⌝ }
-{
-    let start = start_named(b"cSHAKE-DRNG seed", &old);
-    let mut lanes = start.lanes;
-    let length = [personalisation.len() as u8];
-    let blocks = absorb_message(&mut lanes, start.suffix, seed, personalisation, &length);
-    let mut key = [0u8; 64];
-    squeeze(&mut lanes, 0, &mut key);
-    NewKey {
-        key,
-        runs: start.blocks + blocks,
-    }
-}
 
 // A new key made of the old one, the seed and the personalisation.
 pub fn seed(generator: Generator, seed: &[u8], personalisation: &[u8]) -> GeneratorAnswer
@@ -59,24 +35,8 @@ pub fn seed(generator: Generator, seed: &[u8], personalisation: &[u8]) -> Genera
     accept(made.runs, key)
 }
 
-// One piece (1.1.4): the new key, and the first bytes of the stream in `out`.
-fn piece(old: [u8; 64], additional: &[u8], out: &mut [u8]) -> [u8; 64]
-    requires { ⌜ (length (now additional) ≤ maxAdditional) × (length (now out) ≤ pieceBytes) ⌝ }
-    ensures { λ r. ⌜ (r ≡ generate (now (additional .entry)) old .key)
-        × (now (out .exit) ≡ take (length (now (out .entry))) (generate (now (additional .entry)) old .stream)) ⌝ }
-{
-    let start = start_named(b"cSHAKE-DRNG generate", &old);
-    let mut lanes = start.lanes;
-    let length = [additional.len() as u8];
-    absorb_message(&mut lanes, start.suffix, b"", additional, &length);
-    let mut next_key = [0u8; 64];
-    let position = squeeze(&mut lanes, 0, &mut next_key);
-    squeeze(&mut lanes, position, out);
-    next_key
-}
-
 // `out` filled piece by piece (1.1.5); the key after the last piece.
-fn draw_pieces(old: [u8; 64], additional: &[u8], out: &mut [u8]) -> [u8; 64]
+fn draw_pieces(old: [u8; KEY_BYTES], additional: &[u8], out: &mut [u8]) -> [u8; KEY_BYTES]
     requires { ⌜ length (now additional) ≤ maxAdditional ⌝ }
     ensures { λ r. ⌜ (r ≡ drawn (generate (now (additional .entry))) (length (now (out .entry))) old .key)
         × (now (out .exit) ≡ drawn (generate (now (additional .entry))) (length (now (out .entry))) old .stream) ⌝ }

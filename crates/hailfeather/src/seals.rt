@@ -1,8 +1,6 @@
 // Sealing and opening.
-ghost use mathlib.Core.Path.{_≡_};
-ghost use lib.ListN.{length};
 ghost use Rattle.aead.specs.Aead.{sealArguments};
-ghost use Rattle.aead.specs.Answers.{sealed, sealedText, sealedTag, opened, openedText};
+ghost use Rattle.aead.specs.Answers.{Seals, OpensInto};
 ghost use Rattle.seal.specs.Kmac.{kmacAead};
 use answers::Outcome;
 
@@ -15,12 +13,8 @@ pub extern "C" fn hf_seal(
     out: &mut [u8],
     tag: &mut [u8],
 ) -> Outcome
-    ensures { λ r. ⌜ (r ≡ sealed kmacAead (sealArguments (now (key .entry)) (now (iv .entry)) (now (text .entry)) (now (label .entry)))
-        (length (now (out .entry))) (length (now (tag .entry))))
-        × (now (out .exit) ≡ sealedText kmacAead (sealArguments (now (key .entry)) (now (iv .entry)) (now (text .entry)) (now (label .entry)))
-        (now (out .entry)) (length (now (tag .entry))))
-        × (now (tag .exit) ≡ sealedTag kmacAead (sealArguments (now (key .entry)) (now (iv .entry)) (now (text .entry)) (now (label .entry)))
-        (length (now (out .entry))) (now (tag .entry))) ⌝ }
+    ensures { λ r. ⌜ Seals kmacAead (sealArguments (now (key .entry)) (now (iv .entry)) (now (text .entry)) (now (label .entry)))
+        (now (out .entry)) (now (tag .entry)) r (now (out .exit)) (now (tag .exit)) ⌝ }
 {
     seal::seal(key, iv, text, label, out, tag)
 }
@@ -34,10 +28,8 @@ pub extern "C" fn hf_open(
     out: &mut [u8],
     tag: &[u8],
 ) -> Outcome
-    ensures { λ r. ⌜ (r ≡ opened kmacAead (sealArguments (now (key .entry)) (now (iv .entry)) (now (ciphertext .entry)) (now (label .entry)))
-        (length (now (out .entry))) (now (tag .entry)))
-        × (now (out .exit) ≡ openedText kmacAead (sealArguments (now (key .entry)) (now (iv .entry)) (now (ciphertext .entry)) (now (label .entry)))
-        (now (out .entry)) (now (tag .entry))) ⌝ }
+    ensures { λ r. ⌜ OpensInto kmacAead (sealArguments (now (key .entry)) (now (iv .entry)) (now (ciphertext .entry)) (now (label .entry)))
+        (now (out .entry)) (now (tag .entry)) r (now (out .exit)) ⌝ }
 {
-    seal::open(key, iv, ciphertext, label, out, tag)
+    open::open(key, iv, ciphertext, label, out, tag)
 }

@@ -3,16 +3,15 @@
 ghost use mathlib.Core.Path.{_≡_};
 ghost use mathlib.Core.List.{_++_};
 ghost use Prim.Native.Nat.{_+_, _/_};
+ghost use Rattle.encode.specs.Padding.{rate};
 ghost use Rattle.message.specs.Message.{MessageAbsorbed};
+use encode::RATE;
 use sponge::absorb;
 use sponge::finish;
 
-// Bytes in a block.
-const RATE: usize = 136;
-
 // The blocks of a padded message whose pieces have these lengths, with no sum that could wrap.
 fn block_count(first: usize, second: usize, last: usize) -> usize
-    ensures { λ r. ⌜ r ≡ (first + second + last) / 136 + 1 ⌝ }
+    ensures { λ r. ⌜ r ≡ (first + second + last) / rate + 1 ⌝ }
 {
     let ends = first % RATE + second % RATE + last % RATE;
     first / RATE + second / RATE + last / RATE + ends / RATE + 1

@@ -1,23 +1,17 @@
-// Sealing and opening by the KMAC AEAD (KMAC AEAD, 1.2; docs/RULES.md, 'Sealing'). A refusal writes nothing, and opening compares the tag before it writes.
-ghost use mathlib.Core.Path.{_≡_};
-ghost use lib.ListN.{length};
+// Sealing by the KMAC AEAD (KMAC AEAD, 1.2.4; docs/RULES.md, 'Sealing'). A refusal writes nothing. The crate `open` opens what this one sealed.
 ghost use Rattle.aead.specs.Aead.{sealArguments};
-ghost use Rattle.aead.specs.Answers.{sealed, sealedText, sealedTag, opened, openedText};
+ghost use Rattle.aead.specs.Answers.{Seals};
 ghost use Rattle.seal.specs.Kmac.{kmacAead};
 use aead::LEAST_TAG;
 use aead::lengths_refusal;
-use aead::same_beginning;
 use answers::DONE;
 use answers::Outcome;
-use answers::TAG_MISMATCH;
 use seal_calls::begin_stream;
 use seal_calls::combine_stream;
 use seal_calls::make_tag;
 
-// The shortest tags that sealing makes and that opening takes, as specs/Kmac.antt has them.
+// The shortest tags that sealing makes, as specs/Kmac.antt has them.
 const LEAST_SEALED: usize = LEAST_TAG;
-
-const LEAST_OPENED: usize = LEAST_TAG;
 
 // Seals `text`: the ciphertext into `out`, which is as long, and the tag into `tag`.
 pub fn seal(
@@ -28,12 +22,8 @@ pub fn seal(
     out: &mut [u8],
     tag: &mut [u8],
 ) -> Outcome
-    ensures { λ r. ⌜ (r ≡ sealed kmacAead (sealArguments (now (key .entry)) (now (iv .entry)) (now (text .entry)) (now (label .entry)))
-        (length (now (out .entry))) (length (now (tag .entry))))
-        × (now (out .exit) ≡ sealedText kmacAead (sealArguments (now (key .entry)) (now (iv .entry)) (now (text .entry)) (now (label .entry)))
-        (now (out .entry)) (length (now (tag .entry))))
-        × (now (tag .exit) ≡ sealedTag kmacAead (sealArguments (now (key .entry)) (now (iv .entry)) (now (text .entry)) (now (label .entry)))
-        (length (now (out .entry))) (now (tag .entry))) ⌝ }
+    ensures { λ r. ⌜ Seals kmacAead (sealArguments (now (key .entry)) (now (iv .entry)) (now (text .entry)) (now (label .entry)))
+        (now (out .entry)) (now (tag .entry)) r (now (out .exit)) (now (tag .exit)) ⌝ }
 {
     let number = lengths_refusal(
         LEAST_SEALED,
@@ -55,49 +45,5 @@ pub fn seal(
     Outcome {
         number: DONE,
         runs: stream.runs + runs,
-    }
-}
-
-// Opens `ciphertext`: the text into `out`, which is as long, if the tag is the one worked out afresh.
-pub fn open(
-    key: &[u8],
-    iv: &[u8],
-    ciphertext: &[u8],
-    label: &[u8],
-    out: &mut [u8],
-    tag: &[u8],
-) -> Outcome
-    ensures { λ r. ⌜ (r ≡ opened kmacAead (sealArguments (now (key .entry)) (now (iv .entry)) (now (ciphertext .entry)) (now (label .entry)))
-        (length (now (out .entry))) (now (tag .entry)))
-        × (now (out .exit) ≡ openedText kmacAead (sealArguments (now (key .entry)) (now (iv .entry)) (now (ciphertext .entry)) (now (label .entry)))
-        (now (out .entry)) (now (tag .entry))) ⌝ }
-{
-    let number = lengths_refusal(
-        LEAST_OPENED,
-        key.len(),
-        iv.len(),
-        ciphertext.len(),
-        label.len(),
-        out.len(),
-        tag.len(),
-    );
-    if number != DONE {
-        return Outcome { number, runs: 0 };
-    }
-    let stream = begin_stream(key, iv, ciphertext.len());
-    let authentication = stream.authentication;
-    let mut expected = [0u8; 64];
-    let tag_runs = make_tag(&authentication, ciphertext, label, &mut expected);
-    if same_beginning(tag, &expected) {
-        let mut lanes = stream.lanes;
-        combine_stream(&mut lanes, ciphertext, out);
-        return Outcome {
-            number: DONE,
-            runs: stream.runs + tag_runs,
-        };
-    }
-    Outcome {
-        number: TAG_MISMATCH,
-        runs: 0,
     }
 }

@@ -5,6 +5,8 @@ use Prim.Native.Nat.{ℕ, _+_, _/_, _^_, _≤_, _<_}
 use native.Mathlib.Omega.{arith}
 use mir.Syntax.{w64}
 use mir.Val.{Fits}
+use lib.ListN.{length, length-append}
+use Rattle.encode.specs.Padding.{rate}
 use Rattle.calls.specs.Start.{keyed}
 use Rattle.calls.specs.Count.{outputRuns}
 use Rattle.sponge.specs.Running.{running, absorbed, finished}
@@ -27,5 +29,13 @@ module _ (K S x b : List ℕ) (s : Started) (r : ℕ) (h : Starts (keyed K S) s)
   started-bounded = omega (arith, start-bounded h, ap (λ (t : Started). t .blocks) (h .is))
 
 -- the count of a tag over any ciphertext and label
-pub runs-fit : (b r o x l t : ℕ) → b ≤ 128 → r ≡ (x + l + 2) / 136 + 1 → o ≡ outputRuns t → x < 2 ^ 64 → l < 2 ^ 64 → t < 2 ^ 64 → Fits w64 (b + r + o)
-runs-fit b r o x l t hb hr ho hx hl ht = omega arith
+module _ (b r : ℕ) (x l : List ℕ) (few : b ≤ 128) (blocks : r ≡ length ((x ++ l) ++ zeroCode) / rate + 1) (hx : length x < 2 ^ 64)
+    (hl : length l < 2 ^ 64) where
+  long : length ((x ++ l) ++ zeroCode) ≡ length x + length l + 2
+  long = simp length-append
+
+  pub input-fits : Fits w64 (b + r)
+  input-fits = omega (arith, long)
+
+  pub runs-fit : (o t : ℕ) → o ≡ outputRuns t → t < 2 ^ 64 → Fits w64 (b + r + o)
+  runs-fit o t counted ht = omega (arith, long)

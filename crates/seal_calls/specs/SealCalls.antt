@@ -3,6 +3,7 @@ use mathlib.Core.Path.{_≡_}
 use mathlib.Core.List.{List, [], _∷_, _++_}
 use Prim.Native.Nat.{ℕ, _+_, _/_, _≤_}
 use lib.ListN.{length}
+use Rattle.encode.specs.Padding.{rate}
 use Rattle.calls.specs.Start.{keyed}
 use Rattle.calls.specs.Count.{outputRuns}
 use Rattle.sponge.specs.Running.{Running, running, absorbed, finished, squeezed, after}
@@ -20,7 +21,7 @@ xofRunning K S x = finished (started (keyed K S) .suffix) (absorbed (running (st
 
 -- the permutations of the call for n bytes of output
 unfoldable pub xofRuns : (K S x : List ℕ) → ℕ → ℕ
-xofRuns K S x n = started (keyed K S) .blocks + (length (x ++ zeroCode) / 136 + 1) + outputRuns n
+xofRuns K S x n = started (keyed K S) .blocks + (length (x ++ zeroCode) / rate + 1) + outputRuns n
 
 -- the key stream for a text of n bytes: its authentication key, and the lanes that give the rest
 abbrev pub streamBegun : (key iv : List ℕ) → ℕ → Stream

@@ -6,21 +6,18 @@ ghost use Prim.Native.Nat.{_+_};
 ghost use lib.ListN.{length};
 ghost use Rattle.calls.specs.Count.{outputRuns};
 ghost use Rattle.sponge.specs.Running.{running, squeezed, after};
+ghost use Rattle.byte_strings.specs.Combined.{combined};
 ghost use Rattle.aead.specs.Limits.{authenticationKeyLength};
-ghost use Rattle.aead.specs.Aead.{combined};
 ghost use Rattle.seal_calls.specs.SealCalls.{Begins, TagMade};
+use aead::AUTHENTICATION_KEY_LENGTH;
 use calls::output_runs;
+use encode::RATE;
 use message::absorb_message;
 use sponge::squeeze;
 
-pub const AUTHENTICATION_KEY_LENGTH: usize = 32;
-
-// Bytes in a block.
-const RATE: usize = 136;
-
 // A key stream of which the authentication key has been squeezed.
 pub struct Stream {
-    pub authentication: [u8; 32],
+    pub authentication: [u8; AUTHENTICATION_KEY_LENGTH],
     pub lanes: [u64; 25],
     // The permutations of the whole stream.
     pub runs: usize,
@@ -41,7 +38,7 @@ pub fn begin_stream(key: &[u8], iv: &[u8], n: usize) -> Stream
     let mut lanes = start.lanes;
     // An empty message, and right_encode(0).
     let blocks = absorb_message(&mut lanes, start.suffix, b"", b"", b"\x00\x01");
-    let mut authentication = [0u8; 32];
+    let mut authentication = [0u8; AUTHENTICATION_KEY_LENGTH];
     squeeze(&mut lanes, 0, &mut authentication);
     Stream {
         authentication,
@@ -57,7 +54,7 @@ pub fn combine_stream(lanes: &mut [u64; 25], text: &[u8], out: &mut [u8])
         × (now (lanes .exit) ≡ after (length (now (out .entry))) (running (now (lanes .entry)) authenticationKeyLength) .lanes) ⌝ }
 {
     squeeze(lanes, AUTHENTICATION_KEY_LENGTH, out);
-    aead::combine(text, out);
+    byte_strings::combine(text, out);
 }
 
 // The tag over a ciphertext and a label; its permutations.

@@ -5,12 +5,12 @@ use Prim.Native.Nat.{ℕ, _+_, _-_, _≤_}
 use native.Mathlib.Omega.{arith}
 use borrow.Author.Needs.{needs}
 use borrow.Rule.Slice.PartMut.{postOf, same-len-mid, mid-len}
-use lib.ListN.{length, take, drop, length-take}
+use lib.ListN.{length, take, drop}
 use lib.Seq.{length-take-le}
-use Rattle.pieces.specs.Pieces.{drawn}
+use Rattle.pieces.specs.Pieces.{pieceBytes, drawn}
 use Rattle.pieces.specs.Laws.{before, cut-fits, cut-some, drawn-turn, drawn-end}
 use Rattle.generator.specs.Cshake.{generate}
-use Rattle.generator.proofs.Calls.{piece-sized}
+use Rattle.generator.proofs.Calls.{piece-key, piece-stream, piece-sized}
 use Rattle.generator.proofs.draw_pieces.Statement.{statement}
 use Rattle.generator.proofs.draw_pieces.Tie as tie
 
@@ -22,22 +22,30 @@ Inv-loop additional out₀ n key₀ i₀ out key i =
 abbrev μ-loop : tie.MeasureT-loop
 μ-loop additional out₀ n key₀ i₀ out key i = n - i
 
+-- the places in a turn, from the piece back to the start
+abbrev cutting : tie.After-piece Inv-loop μ-loop → tie.After-next Inv-loop μ-loop
+cutting c = c .before .before
+
+abbrev turn : tie.After-next Inv-loop μ-loop → tie.At-loop Inv-loop μ-loop
+turn c = c .before .before
+
+abbrev start : tie.At-loop Inv-loop μ-loop → tie.Start Inv-loop μ-loop
+start t = t .before .before .before
+
 loop-holds : tie.Need-loop-holds Inv-loop μ-loop
 loop-holds c =
-    let n = length (c .before .before .args .out .now) in
+    let a = c .before .before .args in
+    let n = length (a .out .now) in
     let z : n - 0 ≡ n = omega arith in
-    (omega arith, refl, refl, ap (λ (k : ℕ). drawn (generate (c .before .before .args .additional .now)) k (c .before .before .args .old)) z)
+    (omega arith, refl, refl, ap (λ (k : ℕ). drawn (generate (a .additional .now)) k (a .old)) z)
 
 sub-next : tie.Need-sub-next Inv-loop μ-loop
 sub-next c = omega arith
 
-next-requires : tie.Need-next-requires Inv-loop μ-loop
-next-requires c κs = tt
-
 add-end : tie.Need-add-end Inv-loop μ-loop
 add-end c =
-    let n = length (c .before .before .before .before .before .args .out .now) in
-    omega (arith, c .next .ensures, cut-fits (n - c .before .before .loop .i) .0)
+    let n = length (start (turn c) .args .out .now) in
+    omega (arith, c .next .ensures, cut-fits (n - turn c .loop .i) .0)
 
 sub-piece : tie.Need-sub-piece Inv-loop μ-loop
 sub-piece c = omega arith
@@ -47,44 +55,42 @@ part-piece-start c = search needs
 
 part-piece-end : tie.Need-part-piece-end Inv-loop μ-loop
 part-piece-end c =
-    let n = length (c .before .before .before .before .before .args .out .now) in
-    omega (arith, c .next .ensures, cut-fits (n - c .before .before .loop .i) .0)
-
-piece-requires : tie.Need-piece-requires Inv-loop μ-loop
-piece-requires c κs =
-    let n = length (c .before .before .before .before .before .before .args .out .now) in
-    let i = c .before .before .before .loop .i in
-    (c .before .before .before .before .before .before .pre, simp length-take (omega (arith, c .before .next .ensures, cut-fits (n - i) .1)))
+    let n = length (start (turn c) .args .out .now) in
+    omega (arith, c .next .ensures, cut-fits (n - turn c .loop .i) .0)
 
 loop-less : tie.Need-loop-less Inv-loop μ-loop
 loop-less c =
-    let n = length (c .before .before .before .before .before .before .before .before .before .args .out .now) in
-    let i = c .before .before .before .before .before .before .loop .i in
-    omega (arith, c .before .before .before .before .next .ensures, cut-some (n - i) (omega arith))
+    let cut = cutting (c .before .before) in
+    let n = length (start (turn cut) .args .out .now) in
+    omega (arith, cut .next .ensures, cut-some (n - turn cut .loop .i) (omega arith))
 
 loop-again : tie.Need-loop-again Inv-loop μ-loop
 loop-again c =
-    let a = c .before .before .before .before .before .before .before .before .before .args in
-    let k = c .before .before .before .before .before .before .loop in
-    let next = c .before .before .before .before .next in
-    let piece = c .before .before .piece in
+    let made = c .before .before in
+    let at = turn (cutting made) in
+    let a = start at .args in
+    let k = at .loop in
+    let next = cutting made .next in
+    let piece = made .piece in
     let additional = a .additional .now in
+    let part = piece .last .1 .1 .0 in
     let n = length (a .out .now) in
     let fits = cut-fits (n - k .i) in
     let end : k .i + next .result ≤ n = omega (arith, next .ensures, fits .0) in
     let size : length (take (k .i + next .result - k .i) (drop (k .i) (k .out))) ≡ next .result
     = mid-len (k .i) (k .i + next .result) (k .out) (omega arith) ∙ omega arith in
-    let given : piece .last .1 .1 .0 ≡ take (next .result) (generate additional (k .key) .stream)
-    = piece .ensures .1 ∙ ap (λ (m : ℕ). take m (generate additional (k .key) .stream)) size in
-    let long : length (piece .last .1 .1 .0) ≡ length (take (k .i + next .result - k .i) (drop (k .i) (k .out)))
+    let room : length (take (k .i + next .result - k .i) (drop (k .i) (k .out))) ≤ pieceBytes = omega (arith, size, next .ensures, fits .1) in
+    let given : part ≡ take (next .result) (generate additional (k .key) .stream)
+    = piece-stream _ _ _ _ _ (piece .ensures) (start at .pre) room ∙ ap (λ (m : ℕ). take m (generate additional (k .key) .stream)) size in
+    let long : length part ≡ length (take (k .i + next .result - k .i) (drop (k .i) (k .out)))
     = ap length given
     ∙ length-take-le (next .result) (generate additional (k .key) .stream) (omega (arith, next .ensures, fits .1, piece-sized additional (k .key)))
     ∙ sym size in (
       end,
       refl,
-      same-len-mid (k .i) (k .i + next .result - k .i) (k .out) (piece .last .1 .1 .0) long ∙ k .inv .2,
-      drawn-turn (generate additional) (piece-sized additional) (k .out) (piece .last .1 .1 .0) (postOf (k .i) (k .i + next .result - k .i) (k .out))
-          (k .key) (piece .result) (k .i) n (next .result) (omega arith) (omega arith) (next .ensures) given (piece .ensures .0)
+      same-len-mid (k .i) (k .i + next .result - k .i) (k .out) part long ∙ k .inv .2,
+      drawn-turn (generate additional) (piece-sized additional) (k .out) part (postOf (k .i) (k .i + next .result - k .i) (k .out)) (k .key) (piece .result)
+          (k .i) n (next .result) (omega arith) (omega arith) (next .ensures) given (piece-key _ _ _ _ _ (piece .ensures) (start at .pre) room)
           ∙ k .inv .3,
     )
 
@@ -93,7 +99,7 @@ same-length c = c .before .loop .inv .2
 
 returns : tie.Need-returns Inv-loop μ-loop
 returns c =
-    let a = c .before .before .before .before .args in
+    let a = start (c .before) .args in
     let k = c .before .loop in
     let n = length (a .out .now) in
     let e : k .i ≡ n = omega arith in
@@ -109,12 +115,12 @@ draw-pieces-spec =
     μ-loop
     loop-holds
     sub-next
-    next-requires
+    (λ c κs. tt)
     add-end
     sub-piece
     part-piece-start
     part-piece-end
-    piece-requires
+    (λ c κs. tt)
     loop-less
     loop-again
     same-length

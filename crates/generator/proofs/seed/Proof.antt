@@ -5,6 +5,7 @@ use Rattle.seeding.specs.Seeding.{seedLengthsRefusal}
 use Rattle.seeding.specs.Laws.{seed-limits}
 use Rattle.drng.proofs.Answers.{seed-refused, seed-accepted}
 use Rattle.generator.specs.Cshake.{cshakeDrng}
+use Rattle.generator.proofs.Calls.{key-made, key-runs}
 use Rattle.generator.proofs.seed.Statement.{statement}
 use Rattle.generator.proofs.seed.Tie as tie
 
@@ -23,20 +24,16 @@ returns c =
 accepted : (c : tie.Else1) → seedLengthsRefusal (length (entry (c .before) .args .seed .now)) (length (entry (c .before) .args .personalisation .now)) ≡ 0
 accepted c = sym (c .before .seed-refusal .ensures) ∙ c .if1 .left
 
-new-key-requires : tie.Need-new-key-requires
-new-key-requires c κs =
-    let limits = seed-limits _ _ (accepted (c .before)) in
-    (limits .1, limits .0)
-
 returns-2 : tie.Need-returns-2
 returns-2 c =
     let made = c .before .before in
     let past = made .before .before in
     let a = entry (past .before) .args in
     let new = made .new-key in
+    let short = seed-limits _ _ (accepted past) .0 in
     c .accept .ensures
-    ∙ seed-accepted cshakeDrng (a .generator) (a .seed .now) (a .personalisation .now) (new .result .runs) (new .result .key)
-    (accepted past) (new .ensures .runs) (new .ensures .key)
+    ∙ seed-accepted cshakeDrng (a .generator) (a .seed .now) (a .personalisation .now) (new .result .runs) (new .result .key) (accepted past)
+    (key-runs _ _ _ _ (new .ensures) short) (key-made _ _ _ _ (new .ensures) short)
 
 pub seed-spec : {M : Type 1} → statement M
-seed-spec = tie.close (tie.spec (λ c κs. tt) (λ c κs. tt) returns new-key-requires (λ c κs. tt) returns-2)
+seed-spec = tie.close (tie.spec (λ c κs. tt) (λ c κs. tt) returns (λ c κs. tt) (λ c κs. tt) returns-2)

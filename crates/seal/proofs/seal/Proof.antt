@@ -6,9 +6,10 @@ use borrow.Author.Needs.{needs}
 use lib.ListN.{length}
 use Rattle.aead.specs.Limits.{leastTag}
 use Rattle.aead.specs.Aead.{SealArguments, sealArguments}
-use Rattle.aead.proofs.Refusals.{WithinLimits, lengths-accepted}
-use Rattle.aead.specs.Refusals.{sealRefusal}
-use Rattle.aead.proofs.Answers.{answer, Seals, seal-refused}
+use Rattle.aead.specs.Refusals.{WithinLimits, sealRefusal}
+use Rattle.aead.specs.Answers.{Seals}
+use Rattle.aead.proofs.Refusals.{lengths-accepted}
+use Rattle.aead.proofs.Answers.{answer, seal-refused}
 use Rattle.seal.specs.Kmac.{kmacAead}
 use Rattle.seal.proofs.StreamAndTag.{Streams, Tags, streams, tags, counts-fit}
 use Rattle.seal.proofs.Steps.{seals}
@@ -53,8 +54,7 @@ returns : tie.Need-returns
 returns c =
     let s = entry (c .before) in
     let number = c .before .lengths-refusal in
-    let r = seal-refused kmacAead (arguments s) (s .args .out .now) (s .args .tag .now) (number .result) (number .ensures) (c .if1 .taken) in
-    (r .outcome, r .text, r .handed)
+    seal-refused kmacAead (arguments s) (s .args .out .now) (s .args .tag .now) (number .result) (number .ensures) (c .if1 .taken)
 
 -- the stream and the tag are the construction's
 stream-is : (f : tie.After-begin-stream)
@@ -88,7 +88,7 @@ seals-into m =
     (b .combine-stream .ensures .0) (tag-is m)
 
 returns-2 : tie.Need-returns-2
-returns-2 c = (seals-into (tagging c) .outcome, seals-into (tagging c) .text, seals-into (tagging c) .handed)
+returns-2 c = seals-into (tagging c)
 
 pub seal-spec : {M : Type 1} → statement M
 seal-spec =

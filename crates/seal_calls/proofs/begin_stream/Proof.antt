@@ -62,5 +62,6 @@ begin-stream-spec =
     (λ c. omega (arith, start-bounded (starting c .start-keyed .ensures), messaging c .absorb-message .ensures .blocks))
     (λ c κs. tt)
     (λ c.
-    omega (arith, start-bounded (starting (c .before) .start-keyed .ensures), messaging (c .before) .absorb-message .ensures .blocks, c .stream-share .ensures))
+    omega
+    (arith, start-bounded (starting (c .before) .start-keyed .ensures), messaging (c .before) .absorb-message .ensures .blocks, c .stream-share .ensures))
     returns)

@@ -2,7 +2,7 @@
 use mathlib.Core.Path.{ap, _∙_}
 use borrow.Author.Needs.{needs}
 use Rattle.sponge.specs.Running.{Running}
-use Rattle.aead.specs.Aead.{combined}
+use Rattle.byte_strings.specs.Combined.{combined}
 use Rattle.seal_calls.proofs.combine_stream.Statement.{statement}
 use Rattle.seal_calls.proofs.combine_stream.Tie as tie
 

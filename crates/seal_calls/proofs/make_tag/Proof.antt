@@ -5,10 +5,11 @@ use Prim.Native.Nat.{ℕ, _+_, _/_, _^_, _<_}
 use native.Mathlib.Omega.{arith}
 use borrow.Author.Needs.{needs}
 use lib.ListN.{length, length-append}
+use Rattle.encode.specs.Padding.{rate}
 use Rattle.sponge.specs.Running.{squeezed}
 use Rattle.message.proofs.Calls.{start-bounded}
 use Rattle.seal_calls.specs.SealCalls.{zeroCode}
-use Rattle.seal_calls.proofs.Xof.{xof-running, xof-runs, started-bounded, runs-fit}
+use Rattle.seal_calls.proofs.Xof.{xof-running, xof-runs, started-bounded, input-fits, runs-fit}
 use Rattle.seal_calls.proofs.make_tag.Statement.{statement}
 use Rattle.seal_calls.proofs.make_tag.Tie as tie
 
@@ -24,24 +25,6 @@ starting c = messaging c .before .before .before .before
 
 abbrev entry : tie.After-struct-known → tie.Start
 entry c = starting c .before .before .before .before .before .before
-
-length-message : (c : tie.After-struct-known)
-    → length ((entry c .args .ciphertext .now ++ entry c .args .label .now) ++ zeroCode)
-    ≡ length (entry c .args .ciphertext .now) + length (entry c .args .label .now) + 2
-length-message c = simp length-append
-
--- lengths fit
-sizes : (k : tie.After-slice-known)
-    → (length (k .before .before .before .before .args .ciphertext .now) < 2 ^ 64) × (length (k .before .before .before .before .args .label .now) < 2 ^ 64)
-    × (length (k .before .before .before .before .args .tag .now) < 2 ^ 64)
-sizes k = (omega arith, omega arith, omega arith)
-
-add-result-2 : tie.Need-add-result-2
-add-result-2 c =
-    let s = c .before in
-    let size = sizes (starting s .before .before) in
-    let counted = messaging s .absorb-message .ensures .blocks ∙ ap (λ (k : ℕ). k / 136 + 1) (length-message s) in
-    runs-fit _ _ _ _ _ _ (start-bounded (starting s .start-keyed .ensures)) counted (c .output-runs .ensures) (size .0) (size .1) (size .2)
 
 returns : tie.Need-returns
 returns c =
@@ -59,6 +42,25 @@ returns c =
       bounded = started-bounded k [] m b (start .result) (message .result) (start .ensures) (message .ensures);
     }
 
+-- lengths fit
+sizes : (k : tie.After-slice-known)
+    → (length (k .before .before .before .before .args .ciphertext .now) < 2 ^ 64) × (length (k .before .before .before .before .args .label .now) < 2 ^ 64)
+    × (length (k .before .before .before .before .args .tag .now) < 2 ^ 64)
+sizes k = (omega arith, omega arith, omega arith)
+
+add-result : tie.Need-add-result
+add-result c =
+    let size = sizes (starting c .before .before) in
+    input-fits _ _ (entry c .args .ciphertext .now) (entry c .args .label .now) (start-bounded (starting c .start-keyed .ensures))
+    (messaging c .absorb-message .ensures .blocks) (size .0) (size .1)
+
+add-result-2 : tie.Need-add-result-2
+add-result-2 c =
+    let s = c .before in
+    let size = sizes (starting s .before .before) in
+    runs-fit _ _ (entry s .args .ciphertext .now) (entry s .args .label .now) (start-bounded (starting s .start-keyed .ensures))
+    (messaging s .absorb-message .ensures .blocks) (size .0) (size .1) _ _ (c .output-runs .ensures) (size .2)
+
 pub make-tag-spec : {M : Type 1} → statement M
 make-tag-spec =
     tie.close
@@ -68,7 +70,7 @@ make-tag-spec =
     (λ c. refl)
     (λ c κs. tt)
     (λ c κs. tt)
-    (λ c. omega (arith, start-bounded (starting c .start-keyed .ensures), messaging c .absorb-message .ensures .blocks, length-message c))
+    add-result
     (λ c κs. tt)
     add-result-2
     (λ c. search needs)

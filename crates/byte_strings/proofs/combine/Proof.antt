@@ -4,10 +4,10 @@ use Prim.Native.Nat.{_≤_, _<_, _-_, min}
 use native.Mathlib.Omega.{arith}
 use borrow.Author.Needs.{needs}
 use lib.ListN.{length, length-set}
-use Rattle.aead.specs.Aead.{combined}
-use Rattle.aead.proofs.Combining.{Left, one-more, no-more}
-use Rattle.aead.proofs.combine.Statement.{statement}
-use Rattle.aead.proofs.combine.Tie as tie
+use Rattle.byte_strings.specs.Combined.{combined}
+use Rattle.byte_strings.proofs.Combining.{Left, one-more, no-more}
+use Rattle.byte_strings.proofs.combine.Statement.{statement}
+use Rattle.byte_strings.proofs.combine.Tie as tie
 
 abbrev Inv-loop : tie.InvT-loop
 Inv-loop text out₀ n i₀ out i =
@@ -21,8 +21,9 @@ loop-holds c = (c .shorter .ensures, omega arith, refl, refl)
 
 loop-again : tie.Need-loop-again Inv-loop μ-loop
 loop-again c =
-    let k = c .before .before .before .loop in
-    let a = c .before .before .before .before .before .before .before .args in
+    let at = c .before .before .before in
+    let k = at .loop in
+    let a = at .before .before .before .before .args in
     let text = a .text .now in
     let ht : k .i < length text = omega arith in
     let ho : k .i < length (k .out) = omega arith in

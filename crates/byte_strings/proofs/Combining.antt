@@ -9,7 +9,7 @@ use lib.Arith.{bin-ind}
 use lib.Bits.{bitXor, differ, xor-step, xor-shr, xor-mod, xor-self, xor-zero-l}
 use lib.ListN.{length, getD, set, take, drop, drop-of-length-le, take-append-drop}
 use lib.Seq.{take-suc-set, drop-set-lt, drop-cons, take-all}
-use Rattle.aead.specs.Aead.{combined}
+use Rattle.byte_strings.specs.Combined.{combined}
 
 -- what is done, and what is left to do, is all of it
 abbrev pub Left : List ℕ → List ℕ → ℕ → List ℕ → Type 0

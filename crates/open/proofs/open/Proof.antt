@@ -1,4 +1,4 @@
--- Past the lengths' number the tag is worked out afresh and compared; only then is the text combined with the stream (`Steps.opens`).
+-- Past the lengths' number the tag is worked out afresh and compared; only then is the text combined with the stream (`Opening.opens`).
 use mathlib.Core.Path.{_≡_, refl, sym, _∙_}
 use mathlib.Core.Bool.{Bool, true, false}
 use Prim.Native.Nat.{_+_, _≤_}
@@ -8,14 +8,15 @@ use lib.ListN.{length}
 use Rattle.calls.specs.Start.{sameBytes}
 use Rattle.aead.specs.Limits.{leastTag, longestTag}
 use Rattle.aead.specs.Aead.{SealArguments, sealArguments, tagOf}
-use Rattle.aead.proofs.Refusals.{WithinLimits, lengths-accepted}
-use Rattle.aead.specs.Refusals.{openLengthsRefusal}
-use Rattle.aead.proofs.Answers.{answer, OpensInto, open-refused, open-mismatch}
+use Rattle.aead.specs.Refusals.{WithinLimits, openLengthsRefusal}
+use Rattle.aead.specs.Answers.{OpensInto}
+use Rattle.aead.proofs.Refusals.{lengths-accepted}
+use Rattle.aead.proofs.Answers.{answer, open-refused, open-mismatch}
 use Rattle.seal.specs.Kmac.{kmacAead}
 use Rattle.seal.proofs.StreamAndTag.{Streams, Tags, streams, tags, counts-fit}
-use Rattle.seal.proofs.Steps.{compares, opens}
-use Rattle.seal.proofs.open.Statement.{statement}
-use Rattle.seal.proofs.open.Tie as tie
+use Rattle.open.proofs.Opening.{compares, opens}
+use Rattle.open.proofs.open.Statement.{statement}
+use Rattle.open.proofs.open.Tie as tie
 
 -- the places of the calls, from the last on
 abbrev combining : tie.After-struct-known → tie.After-combine-stream
@@ -58,8 +59,7 @@ returns : tie.Need-returns
 returns c =
     let s = entry (c .before) in
     let number = c .before .lengths-refusal in
-    let r = open-refused kmacAead (arguments s) (s .args .out .now) (s .args .tag .now) (number .result) (number .ensures) (c .if1 .taken) in
-    (r .outcome, r .text)
+    open-refused kmacAead (arguments s) (s .args .out .now) (s .args .tag .now) (number .result) (number .ensures) (c .if1 .taken)
 
 -- the stream and the tag are the construction's
 stream-is : (f : tie.After-begin-stream)
@@ -107,13 +107,12 @@ opens-into c =
     (accepted (f .before)) (within (f .before) .output) (within (f .before) .leastTag) (c .combine-stream .ensures .0) (matches (same c))
 
 returns-2 : tie.Need-returns-2
-returns-2 c = (opens-into (combining c) .outcome, opens-into (combining c) .text)
+returns-2 c = opens-into (combining c)
 
 returns-3 : tie.Need-returns-3
 returns-3 c =
     let s = start (c .before) in
-    let r = open-mismatch kmacAead (arguments s) (s .args .out .now) (s .args .tag .now) (accepted (streaming (tagging (c .before)) .before)) (differs c) in
-    (r .outcome, r .text)
+    open-mismatch kmacAead (arguments s) (s .args .out .now) (s .args .tag .now) (accepted (streaming (tagging (c .before)) .before)) (differs c)
 
 pub open-spec : {M : Type 1} → statement M
 open-spec =

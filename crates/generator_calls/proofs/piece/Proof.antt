@@ -6,12 +6,11 @@ use borrow.Author.Needs.{needs}
 use lib.ListN.{length}
 use Rattle.sponge.specs.Running.{running, squeezed}
 use Rattle.seeding.specs.Seeding.{keyBytes}
-use Rattle.pieces.specs.Pieces.{pieceBytes}
 use Rattle.message.proofs.Calls.{message-output}
-use Rattle.generator.specs.Cshake.{pieceCall}
-use Rattle.generator.proofs.Calls.{piece-start, piece-message, piece-key, piece-stream}
-use Rattle.generator.proofs.piece.Statement.{statement}
-use Rattle.generator.proofs.piece.Tie as tie
+use Rattle.generator_calls.specs.GeneratorCalls.{streamedCall}
+use Rattle.generator_calls.proofs.Inputs.{piece-start, piece-message, key-part, stream-part}
+use Rattle.generator_calls.proofs.piece.Statement.{statement}
+use Rattle.generator_calls.proofs.piece.Tie as tie
 
 -- the places of the calls, from the last on
 abbrev streaming : tie.After-slice-known2 → tie.After-squeeze2
@@ -35,20 +34,19 @@ key-length c = search needs
 
 returns : tie.Need-returns
 returns c =
-    let s = entry c in
-    let key = s .args .t1 in
-    let additional = s .args .additional .now in
+    let a = entry c .args in
+    let n = length (a .out .now) in
     let start = starting c .start-named in
     let message = messaging c .absorb-message in
-    let n = length (s .args .out .now) in
-    let ok = piece-start key (omega (arith, key-length (starting c .before))) in
+    let ok = piece-start (a .t1) (omega (arith, key-length (starting c .before))) in
     let b = running (message .last .0) 0 in
     let given =
-    message-output (pieceCall additional key) (start .result) (start .ensures) ok _ (message .last .0) (message .result) (piece-message additional)
-    (message .ensures) (keyBytes + pieceBytes) in (
-      keying c .squeeze .ensures .1 ∙ piece-key additional key b given,
-      streaming c .squeeze2 .ensures .1 ∙ ap (squeezed n) (keying c .squeeze .ensures .0) ∙ piece-stream additional key b given n (s .pre .1),
-    )
+    message-output (streamedCall (a .t1) (a .additional .now) n) (start .result) (start .ensures) ok _ (message .last .0) (message .result)
+    (piece-message (a .additional .now)) (message .ensures) (keyBytes + n) in
+    record {
+      key = keying c .squeeze .ensures .1 ∙ key-part b n _ given;
+      stream = streaming c .squeeze2 .ensures .1 ∙ ap (squeezed n) (keying c .squeeze .ensures .0) ∙ stream-part b n _ given;
+    }
 
 pub piece-spec : {M : Type 1} → statement M
 piece-spec =

@@ -1,16 +1,15 @@
--- The calls make the input of the seeding's cSHAKE256 call, whose output is the new key (`message`'s laws of calls).
-use mathlib.Core.Path.{_≡_, _∙_}
-use mathlib.Core.List.{[], _∷_, _++_}
-use Prim.Native.Nat.{_+_}
+-- The calls make the input of the cSHAKE256 call whose output is the new key (`message`'s laws of calls).
+use mathlib.Core.Path.{_∙_}
+use Prim.Native.Nat.{_^_, _<_}
 use native.Mathlib.Omega.{arith}
 use borrow.Author.Needs.{needs}
-use lib.ListN.{length, length-append}
-use Rattle.seeding.specs.Seeding.{Seeding, keyBytes, seedCall}
-use Rattle.drng.specs.Drng.{seeding}
+use lib.ListN.{length}
+use Rattle.seeding.specs.Seeding.{keyBytes}
 use Rattle.message.proofs.Calls.{message-output, message-runs, start-bounded}
-use Rattle.generator.proofs.Calls.{seed-start, seed-message}
-use Rattle.generator.proofs.new_key.Statement.{statement}
-use Rattle.generator.proofs.new_key.Tie as tie
+use Rattle.generator_calls.specs.GeneratorCalls.{keyCall}
+use Rattle.generator_calls.proofs.Inputs.{seed-start, seed-message, runs-fit}
+use Rattle.generator_calls.proofs.new_key.Statement.{statement}
+use Rattle.generator_calls.proofs.new_key.Tie as tie
 
 -- the places of the calls, from the last on
 abbrev squeezing : tie.After-struct-known → tie.After-squeeze
@@ -29,17 +28,10 @@ entry c = starting c .before .before .before .before .before
 key-length : tie.Need-slice-aggregate-start-named-2
 key-length c = search needs
 
-add-t15 : tie.Need-add-t15
-add-t15 c =
-    let x = entry c .args .seed .now in
-    let p = entry c .args .personalisation .now in
-    let long : length ((x ++ p) ++ (length p ∷ [])) ≡ length x + length p + 1 = simp length-append in
-    omega (arith, start-bounded (starting c .start-named .ensures), messaging c .absorb-message .ensures .blocks, long, entry c .pre .0, entry c .pre .1)
-
 returns : tie.Need-returns
 returns c =
     let a = entry c .args in
-    let s : Seeding = seeding (a .t1) (a .seed .now) (a .personalisation .now) in
+    let call = keyCall (a .t1) (a .seed .now) (a .personalisation .now) in
     let start = starting c .start-named in
     let message = messaging c .absorb-message in
     let ok = seed-start (a .t1) (omega (arith, key-length (starting c .before))) in
@@ -47,9 +39,19 @@ returns c =
     record {
       key =
           squeezing c .squeeze .ensures .1
-          ∙ message-output (seedCall s) (start .result) (start .ensures) ok _ (message .last .0) (message .result) is (message .ensures) keyBytes;
-      runs = omega (arith, message-runs (seedCall s) (start .result) (start .ensures) ok _ (message .last .0) (message .result) is (message .ensures));
+          ∙ message-output call (start .result) (start .ensures) ok _ (message .last .0) (message .result) is (message .ensures) keyBytes;
+      runs = omega (arith, message-runs call (start .result) (start .ensures) ok _ (message .last .0) (message .result) is (message .ensures));
     }
+
+-- lengths fit
+sizes : (c : tie.After-struct-known) → (length (entry c .args .seed .now) < 2 ^ 64) × (length (entry c .args .personalisation .now) < 2 ^ 64)
+sizes c = (omega arith, omega arith)
+
+add-t16 : tie.Need-add-t16
+add-t16 c =
+    let a = entry c .args in
+    runs-fit _ _ (a .seed .now) (a .personalisation .now) (start-bounded (starting c .start-named .ensures)) (messaging c .absorb-message .ensures .blocks)
+    (sizes c .0) (sizes c .1)
 
 pub new-key-spec : {M : Type 1} → statement M
 new-key-spec =
@@ -63,5 +65,5 @@ new-key-spec =
     (λ c κs. tt)
     (λ c. search needs)
     (λ c κs. tt)
-    add-t15
+    add-t16
     returns)

@@ -3,9 +3,9 @@ use mathlib.Core.Path.{_≡_, refl}
 use Prim.Native.Nat.{_≤_, _<_, _-_}
 use native.Mathlib.Omega.{arith}
 use lib.ListN.{length}
-use Rattle.aead.proofs.Comparing.{Differs, compared-none, one-more, compared-all, compared-short}
-use Rattle.aead.proofs.same_beginning.Statement.{statement}
-use Rattle.aead.proofs.same_beginning.Tie as tie
+use Rattle.byte_strings.proofs.Comparing.{Differs, compared-none, one-more, compared-all, compared-short}
+use Rattle.byte_strings.proofs.same_beginning.Statement.{statement}
+use Rattle.byte_strings.proofs.same_beginning.Tie as tie
 
 abbrev Inv-loop : tie.InvT-loop
 Inv-loop tag bytes difference₀ i₀ difference i = (i ≤ length tag) × (length tag ≤ length bytes) × Differs tag bytes i difference
