@@ -13,7 +13,7 @@ use lib.Dec.{ltb}
 use borrow.Author.Tests.{lt-ltb, le-ltb}
 use Rattle.leb128.specs.Number.{Parsed, value, bad, lastGroup, nextGroup, groups, limit, maxNumber}
 use Rattle.leb128.specs.Answers.{ReadsNumber}
-use Rattle.leb128.specs.Laws.Writing.{limit-least}
+use Rattle.leb128.specs.Laws.Reading.{limit-least}
 use Rattle.leb128.specs.declared.Number.the-variants.{Value, Bad}
 
 -- the answer, by what was read

@@ -7,7 +7,7 @@ use native.Mathlib.Omega.{arith}
 use lib.ListN.{length, getD}
 use lib.Dec.{ltb, leb, eqb}
 use borrow.Author.Tests.{ltb-true, ltb-false, leb-true, le-leb, eq-eqb}
-use Rattle.leb128.specs.Written.{writtenNumber}
+use Rattle.leb128_write.specs.Written.{writtenNumber}
 use Rattle.plan.specs.Limits.{maxRows, maxDestination}
 use Rattle.plan.specs.Plan.{rows, planOf}
 use Rattle.plan.specs.Answers.{lookupOf, noDestination}

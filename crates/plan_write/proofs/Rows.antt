@@ -10,9 +10,9 @@ use lib.ListN.{length, getD, drop, set, length-append, drop-of-length-le}
 use lib.Seq.{drop-length, sets, drop-cons, sets-eq}
 use lib.Dec.{leb, eqb}
 use borrow.Author.Tests.{le-leb, lt-leb, leb-true, eq-eqb, ne-eqb}
-use Rattle.leb128.specs.Answers.{numberLength}
-use Rattle.leb128.specs.Written.{writtenNumber}
-use Rattle.leb128.specs.Laws.Writing.{groups-count}
+use Rattle.leb128_write.specs.Answers.{numberLength}
+use Rattle.leb128_write.specs.Written.{writtenNumber}
+use Rattle.leb128_write.specs.Laws.{groups-count}
 use Rattle.plan.specs.Limits.{maxRows, maxDestination}
 use Rattle.plan_write.specs.Write.{writtenRows, writtenPlan, rowsAllowed, allowed, lengthIs, noLength, lengthOf, fills, writeRefusal, writtenOf}
 use Rattle.plan_write.specs.Write.{WritesPlan}

@@ -7,7 +7,7 @@ use mathlib.Core.Bool.{Bool, true, cond, _&&_}
 use lib.Dec.{leb, eqb}
 use lib.ListN.{length}
 use Rattle.answers.specs.Numbers.{done, malformedPlan}
-use Rattle.leb128.specs.Written.{writtenNumber}
+use Rattle.leb128_write.specs.Written.{writtenNumber}
 use Rattle.plan.specs.Limits.{maxRows, maxDestination}
 use Rattle.plan_write.specs.declared.PlanLength.{PlanLength}
 

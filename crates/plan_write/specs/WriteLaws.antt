@@ -7,8 +7,8 @@ use native.Mathlib.Omega.{arith}
 use lib.ListN.{length, getD, length-append}
 use lib.Dec.{leb}
 use borrow.Author.Tests.{le-ltb, le-leb, leb-true}
-use Rattle.leb128.specs.Written.{writtenNumber}
-use Rattle.leb128.specs.Laws.Writing.{groups-count, number-read}
+use Rattle.leb128_write.specs.Written.{writtenNumber}
+use Rattle.leb128_write.specs.Laws.{groups-count, number-read}
 use Rattle.plan.specs.Limits.{maxPlan, maxRows, maxDestination, padded}
 use Rattle.plan.specs.Plan.{rows, row, rowsFrom, planOf, noRow}
 use Rattle.plan.specs.declared.Row.{Row}

@@ -8,8 +8,7 @@ use lib.ListN.{length, getD, take, drop, length-drop}
 use lib.Seq.{drop-drop}
 use lib.Dec.{ltb, leb}
 use Rattle.leb128.specs.Number.{Parsed, value, bad}
-use Rattle.leb128.specs.Laws.Reading.{Used, groups-used}
-use Rattle.leb128.specs.Laws.Writing.{limit-three}
+use Rattle.leb128.specs.Laws.Reading.{limit-three, Used, groups-used}
 use Rattle.plan.specs.Limits.{maxPlan, maxRows, maxDestination, padded}
 use Rattle.plan.specs.Plan.{Plan, rows, refused, malformed, consRow, afterNumber, planNumber, row, rowsFrom, planIn, planOf, noRow, planAnswer}
 use Rattle.plan.specs.Answers.{hasChute}

@@ -7,9 +7,9 @@ use borrow.Author.Needs.{needs}
 use denote.Ref.{now}
 use lib.ListN.{length, getD, drop}
 use Rattle.leb128.specs.Number.{maxNumber}
-use Rattle.leb128.specs.Written.{writtenNumber}
-use Rattle.leb128.specs.Answers.{numberLength}
-use Rattle.leb128.specs.Laws.Writing.{groups-count, length-is, length-known, length-none}
+use Rattle.leb128_write.specs.Written.{writtenNumber}
+use Rattle.leb128_write.specs.Answers.{numberLength}
+use Rattle.leb128_write.specs.Laws.{groups-count, length-is, length-known, length-none}
 use Rattle.plan_write.specs.Write.{lengthOf}
 use Rattle.plan_write.proofs.Rows.{lengthFrom, length-start, length-many, length-more, length-large, length-end}
 use Rattle.plan_write.proofs.plan_length.Statement.{statement}

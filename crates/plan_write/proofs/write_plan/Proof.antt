@@ -7,8 +7,8 @@ use denote.Ref.{now}
 use mathlib.Core.List.{List}
 use lib.ListN.{length}
 use lib.Seq.{sets}
-use Rattle.leb128.specs.Written.{writtenNumber}
-use Rattle.leb128.specs.Laws.Writing.{past-written, is-written}
+use Rattle.leb128_write.specs.Written.{writtenNumber}
+use Rattle.leb128_write.specs.Laws.{past-written, is-written}
 use Rattle.plan_write.specs.Write.{writtenRows}
 use Rattle.plan_write.specs.WriteLaws.{plan-length}
 use Rattle.plan_write.proofs.Rows.{known-length, known-rows, other-length, all-written, not-allowed}

@@ -8,8 +8,8 @@ use borrow.Author.Needs.{needs}
 use denote.Ref.{now}
 use lib.ListN.{length, getD, drop}
 use lib.Seq.{sets}
-use Rattle.leb128.specs.Written.{writtenNumber}
-use Rattle.leb128.specs.Laws.Writing.{past-written, is-written}
+use Rattle.leb128_write.specs.Written.{writtenNumber}
+use Rattle.leb128_write.specs.Laws.{past-written, is-written}
 use Rattle.plan_write.specs.Write.{writtenRows, rowsAllowed}
 use Rattle.plan_write.proofs.Rows.{row-room, rows-sets, rows-end, first-allowed, others-allowed}
 use Rattle.plan_write.proofs.put.put_rows.Statement.{statement}

@@ -5,13 +5,13 @@ use mathlib.Core.Path.{_≡_, refl, sym, ap, _∙_}
 use native.Mathlib.Omega.{arith}
 use denote.Ref.{now}
 use lib.ListN.{length}
 use Rattle.leb128.specs.Number.{maxNumber}
-use Rattle.leb128.specs.Written.{writtenNumber}
-use Rattle.leb128.specs.Laws.Writing.{past-written, is-written, length-known}
-use Rattle.leb128.proofs.Writing.{none-large, none-room}
+use Rattle.leb128_write.specs.Written.{writtenNumber}
+use Rattle.leb128_write.specs.Laws.{past-written, is-written, length-known}
+use Rattle.leb128_write.proofs.Writing.{none-large, none-room}
 use borrow.Author.Needs.{needs}
-use Rattle.leb128.proofs.write_number.Statement.{statement}
-use Rattle.leb128.proofs.write_number.Tie as tie
+use Rattle.leb128_write.proofs.write_number.Statement.{statement}
+use Rattle.leb128_write.proofs.write_number.Tie as tie
 
 -- the length that was asked for, and the function
 abbrev asked : tie.Else1 → tie.After-number-length

@@ -8,18 +8,10 @@ use lib.ListN.{length}
 use lib.Seq.{sets}
 use lib.Dec.{ltb, leb}
 use borrow.Author.Tests.{lt-ltb, le-ltb, ltb-false, le-leb, leb-true, leb-false}
 use Rattle.leb128.specs.Number.{value, lastGroup, groups, number, limit, maxNumber}
-use Rattle.leb128.specs.Written.{writtenGroups, writtenNumber}
-use Rattle.leb128.specs.Answers.{numberLength, numberFits, writtenPast, numberWritten}
-
-pub limit-least : (more : ℕ) → 128 ≤ limit more
-unfolding limit
-limit-least zero = omega arith
-limit-least (suc more) = omega (arith, limit-least more)
-
-pub limit-three : limit 2 ≡ 2097152
-unfolding limit
-limit-three = refl
+use Rattle.leb128.specs.Laws.Reading.{limit-three}
+use Rattle.leb128_write.specs.Written.{writtenGroups, writtenNumber}
+use Rattle.leb128_write.specs.Answers.{numberLength, numberFits, writtenPast, numberWritten}
 
 pub groups-last : (more v : ℕ) → v < 128 → writtenGroups more v ≡ v ∷ []
 unfolding writtenGroups

@@ -7,10 +7,10 @@ use borrow.Author.Needs.{needs}
 use denote.Ref.{now}
 use lib.ListN.{length, length-set}
 use lib.Seq.{sets}
-use Rattle.leb128.specs.Written.{writtenGroups, writtenNumber}
-use Rattle.leb128.proofs.Writing.{GroupsLeft, left-start, left-some, left-more, left-last, left-room, sets-more, sets-last}
-use Rattle.leb128.proofs.put.put_groups.Statement.{statement}
-use Rattle.leb128.proofs.put.put_groups.Tie as tie
+use Rattle.leb128_write.specs.Written.{writtenGroups, writtenNumber}
+use Rattle.leb128_write.proofs.Writing.{GroupsLeft, left-start, left-some, left-more, left-last, left-room, sets-more, sets-last}
+use Rattle.leb128_write.proofs.put.put_groups.Statement.{statement}
+use Rattle.leb128_write.proofs.put.put_groups.Tie as tie
 
 abbrev Inv-loop : tie.InvT-loop
 Inv-loop out₀ at value rest₀ next₀ out rest next =

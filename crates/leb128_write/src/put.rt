@@ -3,8 +3,8 @@ ghost use mathlib.Core.Path.{_≡_};
 ghost use Prim.Native.Nat.{_+_};
 ghost use lib.ListN.{length};
 ghost use lib.Seq.{sets};
-ghost use Rattle.leb128.specs.Written.{writtenNumber};
-ghost use Rattle.leb128.specs.Room.{NumberRoom};
+ghost use Rattle.leb128_write.specs.Written.{writtenNumber};
+ghost use Rattle.leb128_write.specs.Room.{NumberRoom};
 
 pub fn put_groups(out: &mut [u8], at: usize, value: u32) -> usize
     requires { ⌜ NumberRoom value at (length (now out)) ⌝ }

@@ -9,10 +9,11 @@ use lib.ListN.{length, set}
 use lib.Seq.{sets}
 use lib.Dec.{ltb, leb}
 use borrow.Author.Tests.{le-ltb, le-leb, lt-leb, leb-true}
 use Rattle.leb128.specs.Number.{limit, maxNumber}
-use Rattle.leb128.specs.Written.{writtenGroups, writtenNumber}
-use Rattle.leb128.specs.Answers.{numberLength, numberFits, writtenPast, numberWritten}
-use Rattle.leb128.specs.Laws.Writing.{limit-three, groups-last, groups-count}
+use Rattle.leb128_write.specs.Written.{writtenGroups, writtenNumber}
+use Rattle.leb128_write.specs.Answers.{numberLength, numberFits, writtenPast, numberWritten}
+use Rattle.leb128.specs.Laws.Reading.{limit-three}
+use Rattle.leb128_write.specs.Laws.{groups-last, groups-count}
 
 groups-more : (more v : ℕ) → 1 ≤ more → 128 ≤ v → writtenGroups more v ≡ (128 + v % 128) ∷ writtenGroups (more - 1) (v / 128)
 unfolding writtenGroups

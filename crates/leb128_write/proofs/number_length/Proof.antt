@@ -4,11 +4,11 @@ use Prim.Native.Nat.{ℕ, _≤_, _+_, _-_}
 use mathlib.Core.Path.{_≡_, sym, _∙_}
 use native.Mathlib.Omega.{arith}
 use lib.ListN.{length}
-use Rattle.leb128.specs.Written.{writtenNumber}
-use Rattle.leb128.specs.Laws.Writing.{length-is}
-use Rattle.leb128.proofs.Writing.{GroupsLeft, left-start, left-more, left-last, length-large}
-use Rattle.leb128.proofs.number_length.Statement.{statement}
-use Rattle.leb128.proofs.number_length.Tie as tie
+use Rattle.leb128_write.specs.Written.{writtenNumber}
+use Rattle.leb128_write.specs.Laws.{length-is}
+use Rattle.leb128_write.proofs.Writing.{GroupsLeft, left-start, left-more, left-last, length-large}
+use Rattle.leb128_write.proofs.number_length.Statement.{statement}
+use Rattle.leb128_write.proofs.number_length.Tie as tie
 
 abbrev Inv-loop : tie.InvT-loop
 Inv-loop value rest₀ count₀ rest count = (1 ≤ count) × GroupsLeft value rest (count - 1)
