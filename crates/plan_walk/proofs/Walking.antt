@@ -9,10 +9,10 @@ use Rattle.leb128.specs.Number.{Parsed, value, bad}
 use Rattle.leb128.specs.Answers.{numberAnswer}
 use Rattle.leb128.specs.declared.Number.{Number}
 use Rattle.leb128.specs.declared.Number.the-variants.{Value, Bad}
-use Rattle.plan.specs.Plan.{planNumber, rowAnswer}
+use Rattle.plan_read.specs.Plan.{planNumber, rowAnswer}
 use Rattle.plan.specs.Answers.{summaryOf}
-use Rattle.plan.specs.declared.RowRead.{RowRead}
-use Rattle.plan.specs.declared.RowRead.the-variants.{Found, NotRow}
+use Rattle.plan_read.specs.declared.RowRead.{RowRead}
+use Rattle.plan_read.specs.declared.RowRead.the-variants.{Found, NotRow}
 use Rattle.plan.specs.declared.PlanSummary.{PlanSummary}
 use Rattle.plan_walk.specs.Walk.{placeAfter, firstRow, walkStart, stay, asked, walkStep}
 use Rattle.plan_walk.specs.declared.Cursor.{Cursor}

@@ -8,14 +8,15 @@ use lib.ListN.{length, getD, take, drop}
 use lib.Dec.{ltb, leb, eqb, leb·zero, leb·suc-suc, leb·suc-zero}
 use borrow.Author.Tests.{le-leb, ne-eqb}
 use denote.Ref.{RefT, now}
+use Rattle.answers.specs.Numbers.{inputTooLong, noSuchChute}
 use Rattle.answers.specs.Done.{ifDone}
 use Rattle.leb128.specs.Number.{Parsed, value, bad, groups}
 use Rattle.leb128.specs.Laws.Reading.{Rest, groups-rest}
-use Rattle.plan.specs.Limits.{maxPlan, maxRows, padded}
-use Rattle.plan.specs.Plan.{Plan, rows, refused, malformed, consRow, afterNumber, planNumber, row, rowsFrom, planIn, planOf, noRow, planAnswer}
-use Rattle.plan.specs.Laws.Refusals.{Numbered, plan-numbered}
-use Rattle.plan.specs.Answers.{summaryOf, summary, lookupOf, lookup, noDestination}
-use Rattle.plan.specs.declared.Row.{Row}
+use Rattle.plan_read.specs.Limits.{maxPlan, maxRows, padded}
+use Rattle.plan_read.specs.Plan.{Plan, rows, refused, malformed, consRow, afterNumber, planNumber, row, rowsFrom, planIn, planOf, noRow, planAnswer}
+use Rattle.plan_read.specs.Laws.Refusals.{Numbered, plan-numbered}
+use Rattle.plan.specs.Answers.{summaryOf, summary, rowFound, noChuteRow, chuteRow, chuteRowOf, destinationOf, lookupOf}
+use Rattle.plan_read.specs.declared.Row.{Row}
 use Rattle.plan.specs.declared.Lookup.{Lookup}
 use Rattle.plan_walk.specs.Walk.{placeAfter, firstRow, walkStart, stay, walkStep}
 use Rattle.plan_walk.specs.Walker.{walkerAt, asks, moved}
@@ -30,7 +31,7 @@ destinations l = map (λ (r : Row). r .destination) l
 
 -- the lookup of the (k + 1)th row
 abbrev rowLookup : ℕ → List Row → Lookup
-rowLookup k l = cond (leb (suc k) (length l)) (record { number = 0; destination = getD l k noRow .destination }) (noDestination 10)
+rowLookup k l = destinationOf (cond (leb (suc k) (length l)) (rowFound (getD l k noRow)) (noChuteRow noSuchChute))
 
 take-none : (n : ℕ) → take {A = ℕ} n [] ≡ []
 take-none zero = refl
@@ -55,7 +56,7 @@ module _ (plan : RefT (List ℕ)) where
   AsksFrom at (rows l) = (k : ℕ) → Asked k (at-row at) l
   AsksFrom at (refused n place) = Unit
 
-  end-stays : (at : ℕ) → drop at s ≡ [] → asks (at-row at) ≡ stay 10 (record { at = at; number = 0 })
+  end-stays : (at : ℕ) → drop at s ≡ [] → asks (at-row at) ≡ stay noSuchChute (record { at = at; number = 0 })
   unfolding walkStep groups
   end-stays at e = rw e
 
@@ -110,7 +111,7 @@ module _ (plan : RefT (List ℕ)) where
   unfolding planOf
   asks-plan = long (ltb maxPlan (length s)) (placeAfter (planNumber 0 s)) (planIn s) (go (planNumber 0 s) (groups-rest padded true 2 0 s))
     where
-      long : (b : Bool) (at : ℕ) (p : Plan) → AsksFrom at p → AsksFrom at (cond b (refused 5 0) p)
+      long : (b : Bool) (at : ℕ) (p : Plan) → AsksFrom at p → AsksFrom at (cond b (refused inputTooLong 0) p)
       long true at p x = tt
       long false at p x = x
 
@@ -157,7 +158,7 @@ module _ (plan : RefT (List ℕ)) where
 
     abbrev AnswersAs : Plan → Cursor → Type 0
     AnswersAs p c =
-        (nth k (walkerAt plan c) ≡ lookup (suc k) (planAnswer (suc k) p)) × (walkedOut k (walkerAt plan c) ≡ take k (destinationsOf p))
+        (nth k (walkerAt plan c) ≡ destinationOf (chuteRow (suc k) (planAnswer (suc k) p))) × (walkedOut k (walkerAt plan c) ≡ take k (destinationsOf p))
 
     asks-go : (p : Plan) → Numbered p → AsksFrom (firstRow s) p → AnswersAs p (startFor p)
     asks-go (rows l) u a = let one : 1 ≤ suc k = omega arith in rw (le-leb 1 (suc k) one) (a k)
@@ -176,7 +177,7 @@ module _ (plan : RefT (List ℕ)) where
     refused-place h = rw (refused-asks (walkStart s) h k .0) (refused-old (summaryOf s .number) (firstRow s) 0 h)
 
 pub walks : WalksWhole
-unfolding lookupOf
+unfolding lookupOf chuteRowOf
 walks plan k =
     let w = afterAsks k (walkerOf plan) in
     record {

@@ -7,9 +7,9 @@ use Prim.Native.Nat.{ℕ, zero, suc}
 use lib.ListN.{take}
 use lib.Dec.{eqb}
 use denote.Ref.{RefT, now}
-use Rattle.plan.specs.Plan.{Plan, rows, refused, planOf}
+use Rattle.plan_read.specs.Plan.{Plan, rows, refused, planOf}
 use Rattle.plan.specs.Answers.{summaryOf, lookupOf}
-use Rattle.plan.specs.declared.Row.{Row}
+use Rattle.plan_read.specs.declared.Row.{Row}
 use Rattle.plan.specs.declared.Lookup.{Lookup}
 use Rattle.plan_walk.specs.Walk.{walkStart}
 use Rattle.plan_walk.specs.Walker.{walkerAt, asks, moved}

@@ -1,6 +1,6 @@
 // The walker (docs/RULES.md, 'Chute plan'): keeps a lent plan and its place in it, and hands out the rows' destinations one after another.
 use leb128::Number;
-use plan::RowRead;
+use plan_read::RowRead;
 ghost use mathlib.Core.Path.{_≡_};
 ghost use Rattle.plan_walk.specs.Walk.{firstRow, stay, walkStart, walkStep};
 ghost use Rattle.plan_walk.specs.Walker.{walkerAt, asks, moved};
@@ -39,7 +39,7 @@ fn stays(number: u8, cursor: Cursor) -> WalkAnswer
 fn first_row(plan: &[u8]) -> usize
     ensures { λ r. ⌜ r ≡ firstRow (now (plan .entry)) ⌝ }
 {
-    match leb128::number_at(plan, 0, plan::PADDED) {
+    match leb128::number_at(plan, 0, plan_read::PADDED) {
         Number::Value { value: _, next } => next,
         Number::Bad(_) => 0,
     }
@@ -70,7 +70,7 @@ pub fn step_at(plan: &[u8], cursor: Cursor) -> WalkAnswer
         return stays(cursor.number, cursor);
     }
     let at = cursor.at;
-    let read = plan::row_at(plan, at);
+    let read = plan_read::row_at(plan, at);
     let RowRead::Found(row) = read else {
         return stays(answers::NO_SUCH_CHUTE, cursor);
     };

@@ -8,11 +8,11 @@ use lib.ListN.{length, getD}
 use lib.Dec.{ltb, leb, eqb}
 use borrow.Author.Tests.{ltb-true, ltb-false, leb-true, le-leb, eq-eqb}
 use Rattle.leb128_write.specs.Written.{writtenNumber}
-use Rattle.plan.specs.Limits.{maxRows, maxDestination}
-use Rattle.plan.specs.Plan.{rows, planOf}
+use Rattle.plan_read.specs.Limits.{maxRows, maxDestination}
+use Rattle.plan_read.specs.Plan.{rows, planOf}
 use Rattle.plan.specs.Answers.{lookupOf, noDestination}
-use Rattle.plan.specs.Laws.Lookup.{lookup-row, lookup-zero, lookup-past, count-rows}
-use Rattle.plan.specs.declared.Row.{Row}
+use Rattle.plan.specs.Laws.{lookup-row, lookup-zero, lookup-past, count-rows}
+use Rattle.plan_read.specs.declared.Row.{Row}
 use Rattle.plan.specs.declared.Lookup.{Lookup}
 use Rattle.plan_write.specs.Write.{writtenPlan, rowsAllowed, allowed, lengthIs, noLength, lengthOf, fills, writeRefusal, writtenOf}
 use Rattle.plan_write.specs.RoundTrip.{lookupIn, ReadsAs, EachFits, RoundTrip}

@@ -13,7 +13,7 @@ use borrow.Author.Tests.{le-leb, lt-leb, leb-true, eq-eqb, ne-eqb}
 use Rattle.leb128_write.specs.Answers.{numberLength}
 use Rattle.leb128_write.specs.Written.{writtenNumber}
 use Rattle.leb128_write.specs.Laws.{groups-count}
-use Rattle.plan.specs.Limits.{maxRows, maxDestination}
+use Rattle.plan_read.specs.Limits.{maxRows, maxDestination}
 use Rattle.plan_write.specs.Write.{writtenRows, writtenPlan, rowsAllowed, allowed, lengthIs, noLength, lengthOf, fills, writeRefusal, writtenOf}
 use Rattle.plan_write.specs.Write.{WritesPlan}
 use Rattle.plan_write.specs.WriteLaws.{and-left, and-right, plan-length}

@@ -6,7 +6,7 @@ use mathlib.Core.Bool.{cond}
 use lib.Dec.{ltb}
 use lib.ListN.{length, getD}
 use Rattle.answers.specs.Numbers.{done, noSuchChute}
-use Rattle.plan.specs.Limits.{maxRows, maxDestination}
+use Rattle.plan_read.specs.Limits.{maxRows, maxDestination}
 use Rattle.plan.specs.Answers.{summaryOf, lookupOf, noDestination}
 use Rattle.plan.specs.declared.Lookup.{Lookup}
 use Rattle.plan_write.specs.Write.{lengthOf, writeRefusal, writtenOf}

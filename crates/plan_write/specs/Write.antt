@@ -8,7 +8,7 @@ use lib.Dec.{leb, eqb}
 use lib.ListN.{length}
 use Rattle.answers.specs.Numbers.{done, malformedPlan}
 use Rattle.leb128_write.specs.Written.{writtenNumber}
-use Rattle.plan.specs.Limits.{maxRows, maxDestination}
+use Rattle.plan_read.specs.Limits.{maxRows, maxDestination}
 use Rattle.plan_write.specs.declared.PlanLength.{PlanLength}
 
 unfoldable pub writtenRows : List ℕ → List ℕ

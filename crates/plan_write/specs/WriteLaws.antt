@@ -9,9 +9,9 @@ use lib.Dec.{leb}
 use borrow.Author.Tests.{le-ltb, le-leb, leb-true}
 use Rattle.leb128_write.specs.Written.{writtenNumber}
 use Rattle.leb128_write.specs.Laws.{groups-count, number-read}
-use Rattle.plan.specs.Limits.{maxPlan, maxRows, maxDestination, padded}
-use Rattle.plan.specs.Plan.{rows, row, rowsFrom, planOf, noRow}
-use Rattle.plan.specs.declared.Row.{Row}
+use Rattle.plan_read.specs.Limits.{maxPlan, maxRows, maxDestination, padded}
+use Rattle.plan_read.specs.Plan.{rows, row, rowsFrom, planOf, noRow}
+use Rattle.plan_read.specs.declared.Row.{Row}
 use Rattle.plan_write.specs.Write.{writtenRows, writtenPlan, rowsAllowed}
 
 pub and-left : (a b : Bool) → (a && b) ≡ true → a ≡ true

@@ -24,7 +24,7 @@ fn no_length() -> PlanLength
 pub fn plan_length(rows: &[u32]) -> PlanLength
     ensures { λ r. ⌜ r ≡ lengthOf (now (rows .entry)) ⌝ }
 {
-    if (plan::MAX_ROWS as usize) < rows.len() {
+    if (plan_read::MAX_ROWS as usize) < rows.len() {
         return no_length();
     }
     let mut length = leb128_write::number_length((rows.len() % 4294967296) as u32);
