@@ -8,7 +8,7 @@ use lib.ListN.{length, getD, take, drop}
 use lib.Dec.{ltb, leb, eqb, leb·zero, leb·suc-suc, leb·suc-zero}
 use borrow.Author.Tests.{le-leb, ne-eqb}
 use denote.Ref.{RefT, now}
-use Rattle.answers.specs.Numbers.{inputTooLong, noSuchChute}
+use Rattle.answers.specs.Numbers.{done, inputTooLong, noSuchChute}
 use Rattle.answers.specs.Done.{ifDone}
 use Rattle.leb128.specs.Number.{Parsed, value, bad, groups}
 use Rattle.leb128.specs.Laws.Reading.{Rest, groups-rest}
@@ -43,7 +43,7 @@ module _ (plan : RefT (List ℕ)) where
 
   -- a walker of the plan at a place, its (k + 1)th answer, and what k asks hand out
   abbrev at-row : ℕ → Walker
-  at-row at = walkerAt plan (record { at = at; number = 0 })
+  at-row at = walkerAt plan (record { at = at; number = done })
 
   abbrev nth : ℕ → Walker → Lookup
   nth k w = answerLookup (asks (afterAsks k w))
@@ -56,13 +56,13 @@ module _ (plan : RefT (List ℕ)) where
   AsksFrom at (rows l) = (k : ℕ) → Asked k (at-row at) l
   AsksFrom at (refused n place) = Unit
 
-  end-stays : (at : ℕ) → drop at s ≡ [] → asks (at-row at) ≡ stay noSuchChute (record { at = at; number = 0 })
+  end-stays : (at : ℕ) → drop at s ≡ [] → asks (at-row at) ≡ stay noSuchChute (record { at = at; number = done })
   unfolding walkStep groups
   end-stays at e = rw e
 
   -- an ask more
   abbrev then : ℕ → Walker → WalkAnswer → List ℕ
-  then k w a = cond (eqb (a .number) 0) (a .destination ∷ walkedOut k (moved w (a .next))) (walkedOut k (moved w (a .next)))
+  then k w a = cond (eqb (a .number) done) (a .destination ∷ walkedOut k (moved w (a .next))) (walkedOut k (moved w (a .next)))
 
   asks-more : (k : ℕ) (w : Walker) (a : WalkAnswer) → asks w ≡ a → (nth (suc k) w ≡ nth k (moved w (a .next))) × (walkedOut (suc k) w ≡ then k w a)
   unfolding afterAsks walkedOut
@@ -77,7 +77,7 @@ module _ (plan : RefT (List ℕ)) where
       (more .0 ∙ ih .0 ∙ rw (leb·suc-zero k, leb·suc-zero (suc k)), more .1 ∙ ih .1 ∙ take-none k)
 
   row-read : (at v next : ℕ) (rest : List ℕ) → planNumber at (drop at s) ≡ value v next rest
-      → asks (at-row at) ≡ record { number = 0; destination = v; next = record { at = next; number = 0 } }
+      → asks (at-row at) ≡ record { number = done; destination = v; next = record { at = next; number = done } }
   unfolding walkStep
   row-read at v next rest e = rw e
 
@@ -125,7 +125,7 @@ module _ (plan : RefT (List ℕ)) where
       go (bad place) r = tt
 
   -- on a refused plan every ask answers the number and stays
-  module _ (c : Cursor) (h : c .number ≡ 0 → ⊥) where
+  module _ (c : Cursor) (h : c .number ≡ done → ⊥) where
     abbrev w : Walker
     w = walkerAt plan c
 
@@ -163,7 +163,7 @@ module _ (plan : RefT (List ℕ)) where
     asks-go : (p : Plan) → Numbered p → AsksFrom (firstRow s) p → AnswersAs p (startFor p)
     asks-go (rows l) u a = let one : 1 ≤ suc k = omega arith in rw (le-leb 1 (suc k) one) (a k)
     asks-go (refused n place) u a =
-        let h : n ≡ 0 → ⊥ = λ e. omega arith in
+        let h : n ≡ done → ⊥ = λ e. omega arith in
         let c = startFor (refused n place) in
         let r = refused-asks c h k in
         (rw (r .0) (ap answerLookup (refused-stays c h)), r .1 ∙ sym (take-none k))
@@ -172,7 +172,7 @@ module _ (plan : RefT (List ℕ)) where
     unfolding walkStart summaryOf
     asks-all = asks-go (planOf s) (plan-numbered s) asks-plan
 
-    refused-place : (summaryOf s .number ≡ 0 → ⊥) → afterAsks k (walkerOf plan) .cursor .at ≡ 0
+    refused-place : (summaryOf s .number ≡ done → ⊥) → afterAsks k (walkerOf plan) .cursor .at ≡ 0
     unfolding walkStart
     refused-place h = rw (refused-asks (walkStart s) h k .0) (refused-old (summaryOf s .number) (firstRow s) 0 h)
 

@@ -7,6 +7,7 @@ use Prim.Native.Nat.{ℕ, zero, suc}
 use lib.ListN.{take}
 use lib.Dec.{eqb}
 use denote.Ref.{RefT, now}
+use Rattle.answers.specs.Numbers.{done}
 use Rattle.plan_read.specs.Plan.{Plan, rows, refused, planOf}
 use Rattle.plan.specs.Answers.{summaryOf, lookupOf}
 use Rattle.plan_read.specs.declared.Row.{Row}
@@ -32,7 +33,7 @@ answerLookup a = record { number = a .number; destination = a .destination }
 unfoldable pub walkedOut : ℕ → Walker → List ℕ
 walkedOut zero w = []
 walkedOut (suc k) w =
-    cond (eqb (asks w .number) 0) (asks w .destination ∷ walkedOut k (moved w (asks w .next))) (walkedOut k (moved w (asks w .next)))
+    cond (eqb (asks w .number) done) (asks w .destination ∷ walkedOut k (moved w (asks w .next))) (walkedOut k (moved w (asks w .next)))
 
 -- the rows' destinations in order, none of a refused plan
 abbrev pub destinationsOf : Plan → List ℕ
@@ -45,11 +46,11 @@ pub record Walks (plan : RefT (List ℕ)) (k : ℕ) : Type 0 where
   -- k asks hand out the first k destinations of the plan's rows, in order
   pub destinations : walkedOut k (walkerOf plan) ≡ take k (destinationsOf (planOf (now plan)))
   -- an ask that hands out nothing leaves the walker as it was
-  pub stays : (asks (afterAsks k (walkerOf plan)) .number ≡ 0 → ⊥) → asks (afterAsks k (walkerOf plan)) .next ≡ afterAsks k (walkerOf plan) .cursor
+  pub stays : (asks (afterAsks k (walkerOf plan)) .number ≡ done → ⊥) → asks (afterAsks k (walkerOf plan)) .next ≡ afterAsks k (walkerOf plan) .cursor
   -- the walker keeps the lent plan and its number, and the place of a refused plan is 0
   pub keeps : afterAsks k (walkerOf plan) .plan ≡ plan
   pub number : afterAsks k (walkerOf plan) .cursor .number ≡ summaryOf (now plan) .number
-  pub no-place : (summaryOf (now plan) .number ≡ 0 → ⊥) → afterAsks k (walkerOf plan) .cursor .at ≡ 0
+  pub no-place : (summaryOf (now plan) .number ≡ done → ⊥) → afterAsks k (walkerOf plan) .cursor .at ≡ 0
 
 abbrev pub WalksWhole : Type 0
 WalksWhole = (plan : RefT (List ℕ)) (k : ℕ) → Walks plan k

@@ -10,7 +10,7 @@ use lib.ListN.{length, getD, drop, set, length-append, drop-of-length-le}
 use lib.Seq.{drop-length, sets, drop-cons, sets-eq}
 use lib.Dec.{leb, eqb}
 use borrow.Author.Tests.{le-leb, lt-leb, leb-true, eq-eqb, ne-eqb}
-use Rattle.leb128_write.specs.Answers.{numberLength}
+use Rattle.answers.specs.Numbers.{done, malformedPlan}
 use Rattle.leb128_write.specs.Written.{writtenNumber}
 use Rattle.leb128_write.specs.Laws.{groups-count}
 use Rattle.plan_read.specs.Limits.{maxRows, maxDestination}
@@ -89,12 +89,12 @@ unfolding writtenRows
 rows-end i l out at h = rw (drop-of-length-le l h)
 
 -- what an accepted length says
-module _ (l : List ℕ) (p : PlanLength) (e : p ≡ lengthOf l) (z : p .number ≡ 0) where
+module _ (l : List ℕ) (p : PlanLength) (e : p ≡ lengthOf l) (z : p .number ≡ done) where
   known-allowed : allowed l ≡ true
   unfolding lengthOf
   known-allowed = go (allowed l) (sym (ap (λ (q : PlanLength). q .number) e) ∙ z)
     where
-      go : (b : Bool) → cond {A = PlanLength} b (lengthIs (length (writtenPlan l))) noLength .number ≡ 0 → b ≡ true
+      go : (b : Bool) → cond {A = PlanLength} b (lengthIs (length (writtenPlan l))) noLength .number ≡ done → b ≡ true
       go true q = refl
       go false q = absurd (omega arith)
 
@@ -111,7 +111,7 @@ module _ (l : List ℕ) (p : PlanLength) (e : p ≡ lengthOf l) (z : p .number �
   )
 
   -- refused where the buffer has another length
-  pub other-length : (out : List ℕ) → (p .length ≡ length out → ⊥) → WritesPlan l out out 9
+  pub other-length : (out : List ℕ) → (p .length ≡ length out → ⊥) → WritesPlan l out out malformedPlan
   unfolding writeRefusal writtenOf fills
   other-length out n =
       let d : length (writtenPlan l) ≡ length out → ⊥ = λ q. n (known-length ∙ q) in
@@ -120,7 +120,7 @@ module _ (l : List ℕ) (p : PlanLength) (e : p ≡ lengthOf l) (z : p .number �
   -- else both runs of stores together are the plan
   pub all-written : (out a b : List ℕ) → p .length ≡ length out → a ≡ sets out 0 (writtenNumber (length l))
       → b ≡ sets a (length (writtenNumber (length l))) (writtenRows l)
-      → WritesPlan l out b 0
+      → WritesPlan l out b done
   unfolding writeRefusal writtenOf fills writtenPlan
   all-written out a b n ea eb =
       let m : length (writtenPlan l) ≡ length out = sym known-length ∙ n in
@@ -128,12 +128,12 @@ module _ (l : List ℕ) (p : PlanLength) (e : p ≡ lengthOf l) (z : p .number �
       let whole : sets out 0 (writtenPlan l) ≡ b = sets-append out 0 (writtenNumber (length l)) (writtenRows l) ∙ rw (k, ← ea, ← eb) in
       record { number = rw (known-allowed, eq-eqb _ _ m); buffer = rw (known-allowed, eq-eqb _ _ m) (sym whole ∙ sets-all out (writtenPlan l) m) }
 
-pub not-allowed : (l out : List ℕ) (p : PlanLength) → p ≡ lengthOf l → (p .number ≡ 0 → ⊥) → WritesPlan l out out 9
+pub not-allowed : (l out : List ℕ) (p : PlanLength) → p ≡ lengthOf l → (p .number ≡ done → ⊥) → WritesPlan l out out malformedPlan
 unfolding writeRefusal writtenOf fills lengthOf
 not-allowed l out p e n = let r = go (allowed l) (λ q. n (ap (λ (t : PlanLength). t .number) e ∙ q)) in record { number = r .0; buffer = r .1 }
   where
-    go : (b : Bool) → (cond {A = PlanLength} b (lengthIs (length (writtenPlan l))) noLength .number ≡ 0 → ⊥)
-        → (_≡_ {A = ℕ} 9 (cond (b && eqb (length (writtenPlan l)) (length out)) 0 9)) ×
+    go : (b : Bool) → (cond {A = PlanLength} b (lengthIs (length (writtenPlan l))) noLength .number ≡ done → ⊥)
+        → (malformedPlan ≡ cond (b && eqb (length (writtenPlan l)) (length out)) done malformedPlan) ×
         (out ≡ cond (b && eqb (length (writtenPlan l)) (length out)) (writtenPlan l) out)
     go true q = absurd (q refl)
     go false q = (refl, refl)

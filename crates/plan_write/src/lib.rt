@@ -27,7 +27,7 @@ pub fn plan_length(rows: &[u32]) -> PlanLength
     if (plan_read::MAX_ROWS as usize) < rows.len() {
         return no_length();
     }
-    let mut length = leb128_write::number_length((rows.len() % 4294967296) as u32);
+    let mut length = leb128_write::number_length(rows.len() as u32);
     let mut i: usize = 0;
     while i < rows.len() {
         let row = leb128_write::number_length(rows[i]);
@@ -54,7 +54,7 @@ pub fn write_plan(rows: &[u32], out: &mut [u8]) -> u8
     if needed.length != out.len() {
         return answers::MALFORMED_PLAN;
     }
-    let first = leb128_write::write_number(out, 0, (rows.len() % 4294967296) as u32);
+    let first = leb128_write::write_number(out, 0, rows.len() as u32);
     put::put_rows(rows, out, first);
     answers::DONE
 }

@@ -1,6 +1,6 @@
 -- The bytes counted so far, with the rows to come, make the length: each turn counts one row, and a row that is too large ends the count.
 -- At most three bytes a number keep the sum small.
-use Prim.Native.Nat.{ℕ, _≤_, _<_, _+_, _-_, _*_, _%_}
+use Prim.Native.Nat.{ℕ, _≤_, _<_, _+_, _-_, _*_}
 use mathlib.Core.Path.{_≡_, refl, sym, ap, _∙_}
 use native.Mathlib.Omega.{arith}
 use borrow.Author.Needs.{needs}
@@ -8,8 +8,8 @@ use denote.Ref.{now}
 use lib.ListN.{length, getD, drop}
 use Rattle.leb128.specs.Number.{maxNumber}
 use Rattle.leb128_write.specs.Written.{writtenNumber}
-use Rattle.leb128_write.specs.Answers.{numberLength}
 use Rattle.leb128_write.specs.Laws.{groups-count, length-is, length-known, length-none}
+use Rattle.plan_read.specs.Limits.{maxRows}
 use Rattle.plan_write.specs.Write.{lengthOf}
 use Rattle.plan_write.proofs.Rows.{lengthFrom, length-start, length-many, length-more, length-large, length-end}
 use Rattle.plan_write.proofs.plan_length.Statement.{statement}
@@ -51,7 +51,7 @@ returns : tie.Need-returns Inv-loop μ-loop
 returns c = c .no-length .ensures ∙ length-many _ (c .before .if1 .taken)
 
 cast-number-length : tie.Need-cast-number-length Inv-loop μ-loop
-cast-number-length c = search needs
+cast-number-length c = omega (arith, c .if1 .left)
 
 number-length-requires : tie.Need-number-length-requires Inv-loop μ-loop
 number-length-requires c κs = search needs
@@ -59,9 +59,8 @@ number-length-requires c κs = search needs
 loop-holds : tie.Need-loop-holds Inv-loop μ-loop
 loop-holds c =
     let l = now (rows-of (c .before) .args .rows) in
-    let few : length l ≤ 4096 = omega (arith, c .before .if1 .left) in
-    let k : length l % 4294967296 ≡ length l = omega arith in
-    let e : c .number-length .result ≡ length (writtenNumber (length l)) = c .number-length .ensures ∙ ap numberLength k ∙ length-is (length l) (omega arith) in
+    let few : length l ≤ maxRows = omega (arith, c .before .if1 .left) in
+    let e : c .number-length .result ≡ length (writtenNumber (length l)) = c .number-length .ensures ∙ length-is (length l) (omega arith) in
     (omega arith, (omega (arith, e, groups-count 2 (length l)), rw e (length-start l few)))
 
 mul-number-length : tie.Need-mul-number-length Inv-loop μ-loop
