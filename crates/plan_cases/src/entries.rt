@@ -117,7 +117,7 @@ fn fill(rows: &mut [u32], bytes: &[u8]) {
 }
 
 fn write_each(rows: &[u32]) {
-    let needed = plan_write::plan_length(rows);
+    let needed = plan_length::plan_length(rows);
     let length = needed.length;
     answer(needed.number, length as u64);
     write(rows, length);

@@ -15,10 +15,12 @@ use Rattle.plan.specs.Answers.{lookupOf, noDestination}
 use Rattle.plan.specs.Laws.{lookup-row, lookup-zero, lookup-past, count-rows}
 use Rattle.plan_read.specs.declared.Row.{Row}
 use Rattle.plan.specs.declared.Lookup.{Lookup}
-use Rattle.plan_write.specs.Write.{writtenPlan, rowsAllowed, allowed, lengthIs, noLength, lengthOf, fills, writeRefusal, writtenOf}
+use Rattle.plan_length.specs.Length.{writtenPlan, rowsAllowed, allowed, lengthIs, noLength, lengthOf}
+use Rattle.plan_length.specs.Laws.{and-left, and-right}
+use Rattle.plan_length.specs.declared.PlanLength.{PlanLength}
+use Rattle.plan_write.specs.Write.{fills, writeRefusal, writtenOf}
 use Rattle.plan_write.specs.RoundTrip.{lookupIn, ReadsAs, EachFits, RoundTrip}
-use Rattle.plan_write.specs.WriteLaws.{and-left, and-right, placed, placed-length, placed-row, plan-back}
-use Rattle.plan_write.specs.declared.PlanLength.{PlanLength}
+use Rattle.plan_write.specs.WriteLaws.{placed, placed-length, placed-row, plan-back}
 
 -- rows that keep the rules: their plan answers as they do
 module _ (l : List ℕ) (ok : allowed l ≡ true) where

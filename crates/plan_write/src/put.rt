@@ -2,7 +2,7 @@
 ghost use mathlib.Core.Path.{_≡_};
 ghost use lib.ListN.{length};
 ghost use lib.Seq.{sets};
-ghost use Rattle.plan_write.specs.Write.{writtenRows};
+ghost use Rattle.plan_length.specs.Length.{writtenRows};
 ghost use Rattle.plan_write.specs.Room.{RowsRoom};
 
 // Writes rows from a place on.

@@ -9,8 +9,8 @@ use lib.ListN.{length}
 use lib.Seq.{sets}
 use Rattle.leb128_write.specs.Written.{writtenNumber}
 use Rattle.leb128_write.specs.Laws.{past-written, is-written}
-use Rattle.plan_write.specs.Write.{writtenRows}
-use Rattle.plan_write.specs.WriteLaws.{plan-length}
+use Rattle.plan_length.specs.Length.{writtenRows}
+use Rattle.plan_length.specs.Laws.{plan-length}
 use Rattle.plan_write.proofs.Rows.{known-length, known-rows, other-length, all-written, not-allowed}
 use borrow.Author.Needs.{needs}
 use Rattle.plan_write.proofs.write_plan.Statement.{statement}

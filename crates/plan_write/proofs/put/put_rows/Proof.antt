@@ -10,7 +10,7 @@ use lib.ListN.{length, getD, drop}
 use lib.Seq.{sets}
 use Rattle.leb128_write.specs.Written.{writtenNumber}
 use Rattle.leb128_write.specs.Laws.{past-written, is-written}
-use Rattle.plan_write.specs.Write.{writtenRows, rowsAllowed}
+use Rattle.plan_length.specs.Length.{writtenRows, rowsAllowed}
 use Rattle.plan_write.proofs.Rows.{row-room, rows-sets, rows-end, first-allowed, others-allowed}
 use Rattle.plan_write.proofs.put.put_rows.Statement.{statement}
 use Rattle.plan_write.proofs.put.put_rows.Tie as tie

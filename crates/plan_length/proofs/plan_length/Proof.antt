@@ -10,10 +10,10 @@ use Rattle.leb128.specs.Number.{maxNumber}
 use Rattle.leb128_write.specs.Written.{writtenNumber}
 use Rattle.leb128_write.specs.Laws.{groups-count, length-is, length-known, length-none}
 use Rattle.plan_read.specs.Limits.{maxRows}
-use Rattle.plan_write.specs.Write.{lengthOf}
-use Rattle.plan_write.proofs.Rows.{lengthFrom, length-start, length-many, length-more, length-large, length-end}
-use Rattle.plan_write.proofs.plan_length.Statement.{statement}
-use Rattle.plan_write.proofs.plan_length.Tie as tie
+use Rattle.plan_length.specs.Length.{lengthOf}
+use Rattle.plan_length.proofs.Rows.{lengthFrom, length-start, length-many, length-more, length-large, length-end}
+use Rattle.plan_length.proofs.plan_length.Statement.{statement}
+use Rattle.plan_length.proofs.plan_length.Tie as tie
 
 abbrev Inv-loop : tie.InvT-loop
 Inv-loop rows n₀ i₀ n i = (i ≤ length rows) × ((n ≤ 3 + 3 * i) × (lengthFrom n (drop i rows) ≡ lengthOf rows))
