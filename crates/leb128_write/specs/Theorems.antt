@@ -8,7 +8,8 @@ use lib.ListN.{length, take, drop}
 use Rattle.leb128.specs.Number.{value, number, maxNumber}
 use Rattle.leb128_write.specs.Answers.{numberLength, writtenPast, numberWritten}
 
--- a number that was written at a place: the place answered is past its bytes, reading there gives the number and that place, and the bytes outside are as before
+-- a number that was written at a place: the place answered is past its bytes, reading there gives the number and that place, and the bytes outside are as
+-- before
 pub record NumberIn (at v : ℕ) (out : List ℕ) : Type 0 where
   pub place : writtenPast at v (length out) ≡ at + numberLength v
   pub reads : (padded : Bool) → number padded at (drop at (numberWritten at v out)) ≡

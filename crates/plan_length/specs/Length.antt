@@ -1,5 +1,5 @@
--- A plan written (docs/RULES.md, 'Chute plan'): the number of rows, then each row's destination, each in the fewest groups; and how long it is. Rows that break
--- the plan's rules have no length, and are refused with 9.
+-- A plan written (docs/RULES.md, 'Chute plan'): the number of rows, then each row's destination, each in the fewest groups; and how long it is. Rows that
+-- break the plan's rules have no length, and are refused with 9.
 use Prim.Native.Nat.{ℕ}
 use mathlib.Core.List.{List, [], _∷_, _++_}
 use mathlib.Core.Bool.{Bool, true, cond, _&&_}

@@ -1,5 +1,5 @@
-// Where a chute's row is, in a site plan and a house plan lent together (docs/RULES.md, 'Chute plan'): in the site plan if it has that chute, else in the house
-// plan.
+// Where a chute's row is, in a site plan and a house plan lent together (docs/RULES.md, 'Chute plan'): in the site plan if it has that chute, else in
+// the house plan.
 use plan_read::Row;
 ghost use mathlib.Core.Path.{_≡_};
 ghost use Prim.Native.Nat.{_≤_};

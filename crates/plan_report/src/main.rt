@@ -3,8 +3,10 @@ use libc::STDIN_FILENO;
 use libc::STDOUT_FILENO;
 
 // One byte more than a plan may have tells a plan that is too long, so no input is read further.
+const READ: usize = plan_read::MAX_PLAN + 1;
+
 fn main() {
-    let mut buffer = [0u8; 65537];
+    let mut buffer = [0u8; READ];
     let n = io::read_full(STDIN_FILENO, &mut buffer);
     report(&buffer[..n]);
 }

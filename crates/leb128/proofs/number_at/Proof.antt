@@ -14,7 +14,8 @@ use Rattle.leb128.proofs.number_at.Tie as tie
 
 abbrev Inv-loop : tie.InvT-loop
 Inv-loop bytes at padded low₀ unit₀ more₀ next₀ empty₀ low unit more next empty =
-    (low < unit) × ((unit * limit more ≤ maxNumber + 1) × (above low unit (groups padded empty more next (drop next bytes)) ≡ number padded at (drop at bytes)))
+    (low < unit) × ((unit * limit more ≤ maxNumber + 1)
+    × (above low unit (groups padded empty more next (drop next bytes)) ≡ number padded at (drop at bytes)))
 
 abbrev μ-loop : tie.MeasureT-loop
 μ-loop bytes at padded low₀ unit₀ more₀ next₀ empty₀ low unit more next empty = more

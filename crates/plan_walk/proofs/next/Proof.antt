@@ -112,12 +112,14 @@ module _ {M : Type 1} (𝓤 : URA M) (H : Heap 𝓤) (A : Atoms 𝓤) (W : Given
         (init ! 9 refl (tt, wt .1 .0)) $
         assigns ! (of-opd ! (load ! (from ! (hop ! (look ! 13 refl) (fld ! refl (stop !)))) (look-in ! 0 (sub ! 1 refl (whole !))))) (from ! (stop !))
         (init ! 7 refl (tt, wt .1 .1 .0)) $
-        move ! (1 ∷ 5 ∷ []) $ use2 W (raw (StepAt 𝓤 H A at-mem run .pre (to 𝓤 H A at-mem run κ′ q′ h)) ⊛ ‵ (Own κ′ h)) (apart 𝓤 H A W at-mem run κ′ q′ h) $ split ! $
+        move ! (1 ∷ 5 ∷ []) $ use2 W (raw (StepAt 𝓤 H A at-mem run .pre (to 𝓤 H A at-mem run κ′ q′ h)) ⊛ ‵ (Own κ′ h))
+        (apart 𝓤 H A W at-mem run κ′ q′ h) $ split ! $
         calls-at ! fm (StepAt 𝓤 H A at-mem run) known (to 𝓤 H A at-mem run κ′ q′ h)
         (and-then ! (load ! (from ! (stop !)) (look ! 9 refl)) (and-then ! (load ! (from ! (stop !)) (look ! 7 refl)) (no-more !))) (λ u.
         use1 W (later (some (λ (r : WalkAnswer). ((‵ token ⊛ ‵ ftrue) ⊛ ‵ (S.the-row .own r (u ∷ [])))
         ⊛ raw (ensured 𝓤 H A step.ended (step.clauses 𝓤 H A at-mem run) (κ′, tt) (fields κ′ h) tt r)))) (id⊢ 𝓤 _) $ await ! tt $ pick ! (λ r.
-        split ! $ move ! (1 ∷ []) $ use1 W (raw (fact 𝓤 (r ≡ asks h))) (said 𝓤 H A W at-mem run κ′ q′ h r) $ heard ! (r ≡ asks h) (λ e. split ! $ move ! (1 ∷ []) $
+        split ! $ move ! (1 ∷ []) $ use1 W (raw (fact 𝓤 (r ≡ asks h))) (said 𝓤 H A W at-mem run κ′ q′ h r) $
+        heard ! (r ≡ asks h) (λ e. split ! $ move ! (1 ∷ []) $
         -- [the result; the token; what the struct owns; the struct's cell; the open borrow; obs; auth; nothing; _4; …; _3; …; _2; …; _1; …; room for _0; …]
         peeks ! S.the-row (Is S.the-row) (shows 𝓤 H A S.the-row) r (u ∷ []) (λ is.
         let told = LL.tells S.the-type S′.the-laws r _ is in
