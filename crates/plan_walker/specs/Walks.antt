@@ -12,10 +12,10 @@ use Rattle.plan_read.specs.Plan.{Plan, rows, refused, planOf}
 use Rattle.plan.specs.Answers.{summaryOf, lookupOf}
 use Rattle.plan_read.specs.declared.Row.{Row}
 use Rattle.plan.specs.declared.Lookup.{Lookup}
 use Rattle.plan_walk.specs.Walk.{walkStart}
-use Rattle.plan_walk.specs.Walker.{walkerAt, asks, moved}
+use Rattle.plan_walker.specs.Walker.{walkerAt, asks, moved}
 use Rattle.plan_walk.specs.declared.WalkAnswer.{WalkAnswer}
-use Rattle.plan_walk.specs.declared.Walker.{Walker}
+use Rattle.plan_walker.specs.declared.Walker.{Walker}
 
 abbrev pub walkerOf : RefT (List ℕ) → Walker
 walkerOf plan = walkerAt plan (walkStart (now plan))

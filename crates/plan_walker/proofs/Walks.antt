@@ -18,13 +18,13 @@ use Rattle.plan_read.specs.Laws.Refusals.{Numbered, plan-numbered}
 use Rattle.plan.specs.Answers.{summaryOf, summary, rowFound, noChuteRow, chuteRow, chuteRowOf, destinationOf, lookupOf}
 use Rattle.plan_read.specs.declared.Row.{Row}
 use Rattle.plan.specs.declared.Lookup.{Lookup}
 use Rattle.plan_walk.specs.Walk.{placeAfter, firstRow, walkStart, stay, walkStep}
-use Rattle.plan_walk.specs.Walker.{walkerAt, asks, moved}
-use Rattle.plan_walk.specs.Walks.{walkerOf, afterAsks, answerLookup, walkedOut, destinationsOf, Walks, WalksWhole}
+use Rattle.plan_walker.specs.Walker.{walkerAt, asks, moved}
+use Rattle.plan_walker.specs.Walks.{walkerOf, afterAsks, answerLookup, walkedOut, destinationsOf, Walks, WalksWhole}
 use Rattle.plan_walk.specs.declared.Cursor.{Cursor}
-use Rattle.plan_walk.specs.declared.Walker.{Walker}
+use Rattle.plan_walker.specs.declared.Walker.{Walker}
 use Rattle.plan_walk.specs.declared.WalkAnswer.{WalkAnswer}
 use Rattle.plan_walk.proofs.Walking.{refused-old, start-number, step-refused, step-stays, step-number}
 
 abbrev destinations : List Row → List ℕ
 destinations l = map (λ (r : Row). r .destination) l

@@ -2,10 +2,10 @@
 use mathlib.Core.List.{List}
 use Prim.Native.Nat.{ℕ}
 use denote.Ref.{RefT, now}
 use Rattle.plan_walk.specs.Walk.{walkStep}
 use Rattle.plan_walk.specs.declared.Cursor.{Cursor}
 use Rattle.plan_walk.specs.declared.WalkAnswer.{WalkAnswer}
-use Rattle.plan_walk.specs.declared.Walker.{Walker}
+use Rattle.plan_walker.specs.declared.Walker.{Walker}
 
 -- a walker of a lent plan, at a cursor
 abbrev pub walkerAt : RefT (List ℕ) → Cursor → Walker

@@ -38,24 +38,24 @@ use denote.Triple.Spec.{Meets, tripleOf}
 use denote.Triple.Table.{entered, cited}
 use denote.Triple.Walked.{says, Stays, stay-ref, walkOf, goes-ref, Walks, ends-at, walked, walk-meets}
 use denote.Triple.Clauses.{ensured}
-use Rattle.plan_walk.specs.Walker.{asks, moved}
-use Rattle.plan_walk.specs.declared.Walker.{Walker}
+use Rattle.plan_walker.specs.Walker.{asks, moved}
+use Rattle.plan_walker.specs.declared.Walker.{Walker}
 use Rattle.plan_walk.specs.declared.WalkAnswer.{WalkAnswer}
-use Rattle.plan_walk.proofs.Walker as T
-use Rattle.plan_walk.proofs.Walker.Laws as T′
+use Rattle.plan_walker.proofs.Walker as T
+use Rattle.plan_walker.proofs.Walker.Laws as T′
 use Rattle.plan_walk.proofs.WalkAnswer as S
 use Rattle.plan_walk.proofs.WalkAnswer.Laws as S′
 use Rattle.plan_walk.proofs.Cursor as P
 use Rattle.plan_walk.proofs.Cursor.Laws as P′
-use Rattle.plan_walk.proofs.Asking.{B, D, L, fields, Own, StepAt, to, apart, said, again}
+use Rattle.plan_walker.proofs.Asking.{B, D, L, fields, Own, StepAt, to, apart, said, again}
 use Rattle.plan_walk.proofs.step_at as step
 use Rattle.plan_walk.proofs.step_at.Symbol as step-def
 use Rattle.plan_walk.proofs.step_at.Symbol.{name as #plan-walk·step-at}
 use Rattle.plan_walk.proofs.step_at.Met as step-thm
-use Rattle.plan_walk.proofs.next.Key.{name as #plan-walk·next}
-use Rattle.plan_walk.proofs.next as next
-use Rattle.plan_walk.proofs.next.Statement as stated
-use Rattle.plan_walk.proofs.next.Code as code
+use Rattle.plan_walker.proofs.next.Key.{name as #plan-walker·next}
+use Rattle.plan_walker.proofs.next as next
+use Rattle.plan_walker.proofs.next.Statement as stated
+use Rattle.plan_walker.proofs.next.Code as code
 
 -- `Walker<'a>`, as the referent's place in the signature
 abbrev behind : Slot 2
@@ -161,6 +161,6 @@ pub next-spec : {M : Type 1} → stated.statement M
 unfolding code.routine tablesOf
 next-spec 𝓤 H 𝓜 𝓖 𝓡 =
     entered 𝓤 H (tripleOf 𝓤 H (𝓖 .A) next.signature (next.spec 𝓤 H (𝓖 .A) (𝓜 .mem) (𝓡 .run)))
-    (tables 𝓤 H 𝓜 𝓡 code.env .C) (tables 𝓤 H 𝓜 𝓡 code.env .Λ) #plan-walk·next code.function (code.unfolded 𝓤 H 𝓜 𝓡)
+    (tables 𝓤 H 𝓜 𝓡 code.env .C) (tables 𝓤 H 𝓜 𝓡 code.env .Λ) #plan-walker·next code.function (code.unfolded 𝓤 H 𝓜 𝓡)
     (next-meets 𝓤 H (𝓖 .A) (givenOf 𝓤 H 𝓜 𝓖) (𝓜 .mem) (𝓡 .run) (tablesOf 𝓤 H 𝓜 (tables 𝓤 H 𝓜 𝓡 code.env))
     (cited 𝓤 H (StepAt 𝓤 H (𝓖 .A) (𝓜 .mem) (𝓡 .run)) 𝓜 𝓡 code.env #plan-walk·step-at step-def.routine code.calls-plan-walk·step-at (step-thm.met 𝓤 H 𝓜 𝓖 𝓡)))

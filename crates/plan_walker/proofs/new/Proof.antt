@@ -45,22 +45,22 @@ use denote.Triple.Table.{entered, cited}
 use denote.Triple.Walked.{says, Stays, stay-none-slice, walkOf, goes-none-slice, Walks, ends-at, walked, walk-meets}
 use denote.Exit.{yes}
 use denote.Triple.Clauses.{ensured, lasts}
 use Rattle.plan_walk.specs.Walk.{walkStart}
-use Rattle.plan_walk.specs.Walker.{walkerAt}
-use Rattle.plan_walk.specs.declared.Walker.{Walker}
+use Rattle.plan_walker.specs.Walker.{walkerAt}
+use Rattle.plan_walker.specs.declared.Walker.{Walker}
 use Rattle.plan_walk.specs.declared.Cursor.{Cursor}
-use Rattle.plan_walk.proofs.Walker as T
-use Rattle.plan_walk.proofs.Walker.Laws as T′
+use Rattle.plan_walker.proofs.Walker as T
+use Rattle.plan_walker.proofs.Walker.Laws as T′
 use Rattle.plan_walk.proofs.Cursor as S
 use Rattle.plan_walk.proofs.Cursor.Laws as S′
 use Rattle.plan_walk.proofs.start_at as step
 use Rattle.plan_walk.proofs.start_at.Symbol as step-def
 use Rattle.plan_walk.proofs.start_at.Symbol.{name as #plan-walk·start-at}
 use Rattle.plan_walk.proofs.start_at.Met as step-thm
-use Rattle.plan_walk.proofs.new.Key.{name as #plan-walk·new}
-use Rattle.plan_walk.proofs.new as new
-use Rattle.plan_walk.proofs.new.Statement as stated
-use Rattle.plan_walk.proofs.new.Code as code
+use Rattle.plan_walker.proofs.new.Key.{name as #plan-walker·new}
+use Rattle.plan_walker.proofs.new as new
+use Rattle.plan_walker.proofs.new.Statement as stated
+use Rattle.plan_walker.proofs.new.Code as code
 
 abbrev stayed : Stays (new.ended .signature .params) (new.ended .kept)
 stayed = (stay-none-slice (0 ∷ []) tt (plain (λ _. u8)) yes, tt)
@@ -163,7 +163,7 @@ pub new-spec : {M : Type 1} → stated.statement M
 unfolding code.routine tablesOf
 new-spec 𝓤 H 𝓜 𝓖 𝓡 =
     entered 𝓤 H (tripleOf 𝓤 H (𝓖 .A) new.signature (new.spec 𝓤 H (𝓖 .A) (𝓜 .mem) (𝓡 .run)))
-    (tables 𝓤 H 𝓜 𝓡 code.env .C) (tables 𝓤 H 𝓜 𝓡 code.env .Λ) #plan-walk·new code.function (code.unfolded 𝓤 H 𝓜 𝓡)
+    (tables 𝓤 H 𝓜 𝓡 code.env .C) (tables 𝓤 H 𝓜 𝓡 code.env .Λ) #plan-walker·new code.function (code.unfolded 𝓤 H 𝓜 𝓡)
     (new-meets 𝓤 H (𝓖 .A) (givenOf 𝓤 H 𝓜 𝓖) (𝓜 .mem) (𝓡 .run) (tablesOf 𝓤 H 𝓜 (tables 𝓤 H 𝓜 𝓡 code.env))
     (cited 𝓤 H (StartAt 𝓤 H (𝓖 .A) (𝓜 .mem) (𝓡 .run)) 𝓜 𝓡 code.env #plan-walk·start-at step-def.routine code.calls-plan-walk·start-at
     (step-thm.met 𝓤 H 𝓜 𝓖 𝓡)))

@@ -28,15 +28,15 @@ use denote.Triple.Statement.{Contract}
 use denote.Triple.Entry.{Vals, onEntry}
 use denote.Triple.Spec.{tripleOf}
 use denote.Triple.Clauses.{ensured, lasts}
-use Rattle.plan_walk.specs.Walker.{asks, moved}
-use Rattle.plan_walk.specs.declared.Walker.{Walker}
+use Rattle.plan_walker.specs.Walker.{asks, moved}
+use Rattle.plan_walker.specs.declared.Walker.{Walker}
 use Rattle.plan_walk.specs.declared.WalkAnswer.{WalkAnswer}
-use Rattle.plan_walk.proofs.Walker as T
-use Rattle.plan_walk.proofs.Walker.Laws as T′
+use Rattle.plan_walker.proofs.Walker as T
+use Rattle.plan_walker.proofs.Walker.Laws as T′
 use Rattle.plan_walk.proofs.Cursor as P
 use Rattle.plan_walk.proofs.Cursor.Laws as P′
 use Rattle.plan_walk.proofs.step_at as step
-use Rattle.plan_walk.proofs.next as next
+use Rattle.plan_walker.proofs.next as next
 
 abbrev pub α : Lft → NamedLft
 α κ′ = record { mir = named 1; lft = κ′ }
