@@ -10,39 +10,40 @@ use lib.Dec.{leb}
 use borrow.Author.Tests.{le-leb, lt-leb, leb-true}
 use Rattle.answers.specs.Numbers.{done, noSuchChute}
 use Rattle.plan_read.specs.Plan.{Plan, rows, refused, planOf, planAnswer, noRow}
-use Rattle.plan_read.specs.Laws.Rows.{RowIn, RowsIn, plan-in}
+use Rattle.plan_read.specs.Places.{RowIn}
+use Rattle.plan_read.specs.Laws.Rows.{RowsIn, plan-in}
 use Rattle.plan_read.specs.Laws.Refusals.{Numbered, plan-numbered}
 use Rattle.plan_read.specs.declared.Row.{Row}
 use Rattle.plan.specs.Answers.{summaryOf, hasChute, rowFound, noChuteRow, chuteRow, chuteRowOf, destinationOf, noDestination, lookupOf}
 use Rattle.plan.specs.declared.ChuteRow.{ChuteRow}
 
 module _ (s : List ℕ) (l : List Row) (e : planOf s ≡ rows l) where
-  pub row-known : (c : ℕ) → c < length l → chuteRowOf s (suc c) ≡ rowFound (getD l c noRow)
+  pub chute-row : (c : ℕ) → c < length l → chuteRowOf s (suc c) ≡ rowFound (getD l c noRow)
   unfolding chuteRowOf
-  row-known c h =
+  chute-row c h =
       let one : 1 ≤ suc c = omega arith in
       let some : suc c ≤ length l = omega arith in
       rw (e, le-leb 1 (suc c) one, le-leb (suc c) (length l) some)
 
-  pub row-zero : chuteRowOf s 0 ≡ noChuteRow noSuchChute
+  pub chute-zero : chuteRowOf s 0 ≡ noChuteRow noSuchChute
   unfolding chuteRowOf
-  row-zero = rw e
+  chute-zero = rw e
 
-  pub row-past : (c : ℕ) → length l < c → chuteRowOf s c ≡ noChuteRow noSuchChute
+  pub chute-past : (c : ℕ) → length l < c → chuteRowOf s c ≡ noChuteRow noSuchChute
   unfolding chuteRowOf
-  row-past c h = let one : 1 ≤ c = omega arith in rw (e, le-leb 1 c one, lt-leb _ _ h)
+  chute-past c h = let one : 1 ≤ c = omega arith in rw (e, le-leb 1 c one, lt-leb _ _ h)
 
   pub lookup-row : (c : ℕ) → c < length l → lookupOf s (suc c) ≡ record { number = done; destination = getD l c noRow .destination }
   unfolding lookupOf
-  lookup-row c h = ap destinationOf (row-known c h)
+  lookup-row c h = ap destinationOf (chute-row c h)
 
   pub lookup-zero : lookupOf s 0 ≡ noDestination noSuchChute
   unfolding lookupOf
-  lookup-zero = ap destinationOf row-zero
+  lookup-zero = ap destinationOf chute-zero
 
   pub lookup-past : (c : ℕ) → length l < c → lookupOf s c ≡ noDestination noSuchChute
   unfolding lookupOf
-  lookup-past c h = ap destinationOf (row-past c h)
+  lookup-past c h = ap destinationOf (chute-past c h)
 
   pub count-rows : summaryOf s ≡ record { number = done; rows = length l }
   unfolding summaryOf

@@ -10,7 +10,7 @@ use Rattle.answers.specs.Numbers.{done}
 use Rattle.plan.specs.Answers.{chuteRowOf}
 use Rattle.plan.specs.Laws.{found-in}
 use Rattle.plan.specs.declared.ChuteRow.{ChuteRow}
-use Rattle.plan_pair.specs.Pair.{noLocation, planRefusal, smallerOf, plansRefusal, rowOf, location, locationOf}
+use Rattle.plan_pair.specs.Pair.{noLocation, planRefusal, smallerOf, plansRefusal, locationFound, location, locationOf}
 use Rattle.plan_pair.specs.declared.RowLocation.{RowLocation}
 
 -- a row that was found does not start past its end
@@ -23,7 +23,7 @@ module _ (site house : List ℕ) (chute : ℕ) (s h : ChuteRow) (es : s ≡ chut
     (ea : a ≡ planRefusal (s .number)) (eb : b ≡ planRefusal (h .number)) (ek : k ≡ smallerOf a b) where
   -- by a refusal of the plans
   abbrev chosen : ℕ → RowLocation
-  chosen n = cond (eqb n done) (rowOf s h) (noLocation n)
+  chosen n = cond (eqb n done) (locationFound s h) (noLocation n)
 
   plans : k ≡ plansRefusal s h
   plans = ek ∙ rw (ea, eb)
@@ -35,5 +35,5 @@ module _ (site house : List ℕ) (chute : ℕ) (s h : ChuteRow) (es : s ≡ chut
   pub refused-is : (k ≡ done → ⊥) → noLocation k ≡ locationOf site house chute
   refused-is z = sym (rw (ne-eqb k done z)) ∙ ap chosen plans ∙ whole
 
-  pub found-is : k ≡ done → rowOf s h ≡ locationOf site house chute
+  pub found-is : k ≡ done → locationFound s h ≡ locationOf site house chute
   found-is z = sym (rw (eq-eqb k done z)) ∙ ap chosen plans ∙ whole

@@ -30,14 +30,14 @@ abbrev pub plansRefusal : ChuteRow → ChuteRow → ℕ
 plansRefusal site house = smallerOf (planRefusal (site .number)) (planRefusal (house .number))
 
 -- two plans that are not refused: the row of the site plan, else of the house plan, else 10
-abbrev pub rowOf : ChuteRow → ChuteRow → RowLocation
-rowOf site house =
+abbrev pub locationFound : ChuteRow → ChuteRow → RowLocation
+locationFound site house =
     cond (eqb (site .number) done) (locationIn Site (site .row))
     (cond (eqb (house .number) done) (locationIn House (house .row)) (noLocation noSuchChute))
 
 -- the plans' refusals come before the chute's
 abbrev pub location : ChuteRow → ChuteRow → RowLocation
-location site house = cond (eqb (plansRefusal site house) done) (rowOf site house) (noLocation (plansRefusal site house))
+location site house = cond (eqb (plansRefusal site house) done) (locationFound site house) (noLocation (plansRefusal site house))
 
 unfoldable pub locationOf : List ℕ → List ℕ → ℕ → RowLocation
 locationOf site house chute = location (chuteRowOf site chute) (chuteRowOf house chute)

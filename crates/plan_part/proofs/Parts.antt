@@ -9,7 +9,7 @@ use lib.ListN.{length, length-take, length-drop}
 use lib.Dec.{leb, eqb}
 use borrow.Author.Tests.{le-leb, eqb-true, eqb-false}
 use Rattle.answers.specs.Numbers.{done, noSuchChute}
-use Rattle.plan_read.specs.Laws.Rows.{RowIn, bytesOf}
+use Rattle.plan_read.specs.Places.{RowIn, bytesOf}
 use Rattle.plan_read.specs.declared.Row.{Row}
 use Rattle.plan.specs.Answers.{chuteRowOf}
 use Rattle.plan.specs.Laws.{found-in}

@@ -6,7 +6,7 @@ use mathlib.Core.Logic.{_↔_}
 use mathlib.Core.List.{List, []}
 use lib.ListN.{length}
 use Rattle.answers.specs.Numbers.{done, noSuchChute}
-use Rattle.plan_read.specs.Laws.Rows.{RowIn, bytesOf}
+use Rattle.plan_read.specs.Places.{RowIn, bytesOf}
 use Rattle.plan.specs.Answers.{chuteRowOf}
 use Rattle.plan_pair.specs.Pair.{locationOf}
 use Rattle.plan_pair.specs.declared.Source.{Source}

@@ -4,7 +4,7 @@ use mathlib.Core.Path.{_≡_, refl, _∙_}
 use denote.Ref.{now}
 use borrow.Author.Tests.{eq-eqb, ne-eqb}
 use Rattle.answers.specs.Numbers.{done}
-use Rattle.plan_pair.specs.Pair.{noLocation, rowOf, locationOf}
+use Rattle.plan_pair.specs.Pair.{noLocation, locationFound, locationOf}
 use Rattle.plan_pair.proofs.Locations.{row-ordered, refused-is, found-is}
 use borrow.Author.Needs.{needs}
 use Rattle.plan_pair.proofs.row_location.Statement.{statement}
@@ -34,7 +34,7 @@ refused-by m =
 
 found-by : (m : tie.After-smaller) → m .smaller .result ≡ done
     → let b = both m in let a = start b .args in
-    rowOf (b .before .row-of .result) (b .row-of2 .result) ≡ locationOf (now (a .site)) (now (a .house)) (a .chute)
+    locationFound (b .before .row-of .result) (b .row-of2 .result) ≡ locationOf (now (a .site)) (now (a .house)) (a .chute)
 found-by m =
     let b = both m in
     let a = start b .args in

@@ -12,19 +12,8 @@ use Rattle.leb128.specs.Number.{Parsed, value, bad}
 use Rattle.leb128.specs.Laws.Reading.{limit-three, Used, groups-used}
 use Rattle.plan_read.specs.Limits.{maxPlan, maxRows, maxDestination, padded}
 use Rattle.plan_read.specs.Plan.{Plan, rows, refused, malformed, consRow, afterNumber, planNumber, row, rowsFrom, planIn, planOf, noRow}
+use Rattle.plan_read.specs.Places.{RowIn}
 use Rattle.plan_read.specs.declared.Row.{Row}
-
--- the bytes of a row: those from its start to its end
-abbrev pub bytesOf : Row → List ℕ → List ℕ
-bytesOf r s = take (r .end - r .start) (drop (r .start) s)
-
--- a row lies inside a plan, has one to three bytes, and these alone read as its destination and nothing more
-pub record RowIn (s : List ℕ) (r : Row) : Type 0 where
-  pub some : r .start + 1 ≤ r .end
-  pub few : r .end ≤ r .start + 3
-  pub inside : r .end ≤ length s
-  pub itself : planNumber (r .start) (bytesOf r s) ≡ value (r .destination) (r .end) []
-  pub small : r .destination ≤ maxDestination
 
 abbrev pub RowsIn : List ℕ → Plan → Type 0
 RowsIn s (rows l) = (c : ℕ) → c < length l → RowIn s (getD l c noRow)

@@ -1,4 +1,5 @@
--- Laws of the rows' places: a row starts where the row before it ends, and reading a part of a plan from its start is reading the plan from there, shifted.
+-- Where the rows stand: each lies inside the plan by the law of a plan's rows, one starts where the row before it ends since reading goes on there, and the
+-- place plays no part in reading.
 use mathlib.Core.Path.{_≡_, refl, sym, ap, _∙_}
 use mathlib.Core.List.{List, [], _∷_, map}
 use mathlib.Core.Bool.{Bool, true, false, cond}
@@ -11,10 +12,12 @@ use Rattle.leb128.specs.Number.{Parsed, value, bad}
 use Rattle.leb128.specs.Laws.Reading.{shifted, groups-shifted}
 use Rattle.plan_read.specs.Limits.{maxPlan, maxRows, padded}
 use Rattle.plan_read.specs.Plan.{Plan, rows, refused, malformed, consRow, afterNumber, planNumber, row, rowsFrom, planIn, planOf, noRow}
+use Rattle.plan_read.specs.Places.{RowIn, shiftedRow, shiftedPlan, RowPlaces}
+use Rattle.plan_read.specs.Laws.Rows.{plan-in}
 use Rattle.plan_read.specs.declared.Row.{Row}
 
 -- rows one after another from a place on: the first starts there, and each other where the row before it ends
-pub Adjoining : ℕ → List Row → Type 0
+Adjoining : ℕ → List Row → Type 0
 Adjoining at [] = Unit
 Adjoining at (r ∷ l) = (r .start ≡ at) × Adjoining (r .end) l
 
@@ -66,23 +69,15 @@ plan-next s = pick (ltb maxPlan (length s)) (refused inputTooLong 0) (planIn s) 
     go (value v next rest) = pick (leb v maxRows) (rowsFrom v next rest) (malformed 0) (adjoined next (rowsFrom v next rest) (rows-adjoin v next rest)) tt
     go (bad place) = tt
 
-pub next-start : (s : List ℕ) (l : List Row) → planOf s ≡ rows l → (c : ℕ) → suc c < length l → getD l (suc c) noRow .start ≡ getD l c noRow .end
+next-start : (s : List ℕ) (l : List Row) → planOf s ≡ rows l → (c : ℕ) → suc c < length l → getD l (suc c) noRow .start ≡ getD l c noRow .end
 next-start s l e = rw e at (plan-next s)
-
--- rows, k places on
-abbrev pub shiftedRow : ℕ → Row → Row
-shiftedRow k r = row (r .destination) (r .start + k) (r .end + k)
-
-abbrev pub shiftedPlan : ℕ → Plan → Plan
-shiftedPlan k (rows l) = rows (map (shiftedRow k) l)
-shiftedPlan k (refused n place) = refused n (place + k)
 
 cons-shifted : (k : ℕ) (r : Row) (p : Plan) → consRow (shiftedRow k r) (shiftedPlan k p) ≡ shiftedPlan k (consRow r p)
 cons-shifted k r (rows l) = refl
 cons-shifted k r (refused n place) = refl
 
 -- the same bytes, read k places on
-pub rows-shifted : (n at k : ℕ) (s : List ℕ) → rowsFrom n (at + k) s ≡ shiftedPlan k (rowsFrom n at s)
+rows-shifted : (n at k : ℕ) (s : List ℕ) → rowsFrom n (at + k) s ≡ shiftedPlan k (rowsFrom n at s)
 unfolding rowsFrom
 rows-shifted zero at k [] = refl
 rows-shifted zero at k (b ∷ s) = refl
@@ -95,5 +90,11 @@ rows-shifted (suc n) at k s = rw (groups-shifted padded true 2 at k s) (go (plan
     go (bad place) ih = refl
 
 -- a part of a plan, from a place on: its rows read from its own start are those of the plan from there
-pub part-rows : (n at : ℕ) (s : List ℕ) → rowsFrom n at (drop at s) ≡ shiftedPlan at (rowsFrom n 0 (drop at s))
+part-rows : (n at : ℕ) (s : List ℕ) → rowsFrom n at (drop at s) ≡ shiftedPlan at (rowsFrom n 0 (drop at s))
 part-rows n at s = let k : at ≡ 0 + at = omega arith in ap (λ (m : ℕ). rowsFrom n m (drop at s)) k ∙ rows-shifted n 0 at (drop at s)
+
+inside : (s : List ℕ) (l : List Row) → planOf s ≡ rows l → (c : ℕ) → c < length l → RowIn s (getD l c noRow)
+inside s l e = rw e at (plan-in s)
+
+pub row-places : RowPlaces
+row-places = record { inside = inside; next-start = next-start; part-rows = part-rows }
