@@ -1,6 +1,5 @@
 -- An ask that finds a row is of a walk with the number 0, which it keeps; any other stays where it is.
 use mathlib.Core.Path.{_≡_, refl, sym}
-use mathlib.Core.List.{List}
 use Prim.Native.Nat.{ℕ, zero, suc}
 use lib.ListN.{drop}
 use Rattle.answers.specs.Done.{ifDone}

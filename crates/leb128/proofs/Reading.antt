@@ -1,8 +1,8 @@
 -- Laws of a number read group by group: what `groups` is at a place of a list by the byte there, what the groups read so far make of the groups to
 -- come, and the bounds of their sum.
 use mathlib.Core.Path.{_≡_, refl, sym, ap, _∙_}
-use mathlib.Core.List.{List, [], _∷_}
-use mathlib.Core.Bool.{Bool, true, false, cond, _||_}
+use mathlib.Core.List.{List, _∷_}
+use mathlib.Core.Bool.{Bool, true, false, _||_}
 use Prim.Native.Nat.{ℕ, zero, suc, _+_, _*_, _-_, _%_, _≤_, _<_}
 use native.Mathlib.Nat.{mul-add, mul-assoc, add-assoc, mul-le-mul-left, mul-one}
 use native.Mathlib.Numerals.{add-one}

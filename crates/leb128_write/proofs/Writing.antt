@@ -1,14 +1,14 @@
 -- Laws of a number written group by group, over the number of groups: what is left of it, the stores that put it down, and when there is room.
-use mathlib.Core.Path.{_≡_, refl, sym, ap, _∙_}
-use mathlib.Core.List.{List, [], _∷_}
+use mathlib.Core.Path.{_≡_, refl, ap}
+use mathlib.Core.List.{List, _∷_}
 use mathlib.Core.Bool.{Bool, true, false, cond, _&&_}
-use Prim.Native.Nat.{ℕ, zero, suc, _+_, _*_, _-_, _/_, _%_, _≤_, _<_}
+use Prim.Native.Nat.{ℕ, zero, suc, _+_, _-_, _/_, _%_, _≤_, _<_}
 use native.Mathlib.Omega.{arith}
 use native.Mathlib.Numerals.{add-one}
 use lib.ListN.{length, set}
 use lib.Seq.{sets}
-use lib.Dec.{ltb, leb}
-use borrow.Author.Tests.{le-ltb, le-leb, lt-leb, leb-true}
+use lib.Dec.{leb}
+use borrow.Author.Tests.{le-ltb, le-leb, lt-leb}
 use Rattle.leb128.specs.Number.{limit, maxNumber}
 use Rattle.leb128_write.specs.Written.{writtenGroups, writtenNumber}
 use Rattle.leb128_write.specs.Answers.{numberLength, numberFits, writtenPast, numberWritten}

@@ -1,14 +1,14 @@
 -- Laws of a number written, over the number of groups: its groups one after another, how many they are, and that they read as the number.
-use mathlib.Core.Path.{_≡_, refl, sym, ap, _∙_}
+use mathlib.Core.Path.{_≡_, refl, ap}
 use mathlib.Core.List.{List, [], _∷_, _++_}
-use mathlib.Core.Bool.{Bool, true, false, cond, _||_, _&&_}
-use Prim.Native.Nat.{ℕ, zero, suc, _+_, _*_, _-_, _/_, _%_, _≤_, _<_}
+use mathlib.Core.Bool.{Bool, true, false, cond, _||_}
+use Prim.Native.Nat.{ℕ, zero, suc, _+_, _*_, _/_, _%_, _≤_, _<_}
 use native.Mathlib.Omega.{arith}
 use lib.ListN.{length}
 use lib.Seq.{sets}
 use lib.Dec.{ltb, leb}
 use borrow.Author.Tests.{lt-ltb, le-ltb, ltb-false, le-leb, leb-true, leb-false}
-use Rattle.leb128.specs.Number.{value, lastGroup, groups, number, limit, maxNumber}
+use Rattle.leb128.specs.Number.{value, groups, number, limit, maxNumber}
 use Rattle.leb128.specs.Laws.Reading.{limit-three}
 use Rattle.leb128_write.specs.Written.{writtenGroups, writtenNumber}
 use Rattle.leb128_write.specs.Answers.{numberLength, numberFits, writtenPast, numberWritten}

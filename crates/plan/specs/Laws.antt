@@ -1,6 +1,6 @@
 -- Laws of the questions on one plan: of a plan that is not refused, reading, rows and lookups agree with the list of its rows at every chute, and a row that
 -- is found lies inside the plan.
-use mathlib.Core.Path.{_≡_, refl, ap, _∙_}
+use mathlib.Core.Path.{_≡_, refl, ap}
 use mathlib.Core.List.{List}
 use mathlib.Core.Bool.{Bool, true, false, cond, _&&_}
 use Prim.Native.Nat.{ℕ, zero, suc, _≤_, _<_}
@@ -15,7 +15,6 @@ use Rattle.plan_read.specs.Laws.Rows.{RowsIn, plan-in}
 use Rattle.plan_read.specs.Laws.Refusals.{Numbered, plan-numbered}
 use Rattle.plan_read.specs.declared.Row.{Row}
 use Rattle.plan.specs.Answers.{summaryOf, hasChute, rowFound, noChuteRow, chuteRow, chuteRowOf, destinationOf, noDestination, lookupOf}
-use Rattle.plan.specs.declared.ChuteRow.{ChuteRow}
 
 module _ (s : List ℕ) (l : List Row) (e : planOf s ≡ rows l) where
   pub chute-row : (c : ℕ) → c < length l → chuteRowOf s (suc c) ≡ rowFound (getD l c noRow)

@@ -1,7 +1,7 @@
 -- The part at every location, by the chute's row in each plan: a row that was found lies inside its plan and has one to three bytes, and a refusal of the
 -- plans is neither 0 nor 10.
 use mathlib.Core.Path.{_≡_, refl, sym, ap, _∙_}
-use mathlib.Core.List.{List, []}
+use mathlib.Core.List.{List}
 use mathlib.Core.Bool.{Bool, true, false, cond}
 use Prim.Native.Nat.{ℕ, _-_, _≤_}
 use native.Mathlib.Omega.{arith}
@@ -19,7 +19,7 @@ use Rattle.plan_pair.specs.declared.Source.{Source}
 use Rattle.plan_pair.specs.declared.Source.the-variants.{Site, House}
 use Rattle.plan_pair.specs.declared.RowLocation.{RowLocation}
 use Rattle.plan_part.specs.Part.{partFrom, partOf, rowBytesOf}
-use Rattle.plan_part.specs.Parts.{PartAt, RowFrom, Parts, RowParts}
+use Rattle.plan_part.specs.Parts.{PartAt, RowParts}
 
 -- a row that lies inside a plan: the part at its location is its bytes
 part-row : (s : List ℕ) (r : Row) → RowIn s r → partFrom s (r .start) (r .end - r .start) ≡ bytesOf r s

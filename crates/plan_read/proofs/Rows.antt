@@ -1,13 +1,13 @@
 -- Laws of the rows read one after another: from the row reader's answer back to the number, and what the lookup keeps while rows are read.
-use mathlib.Core.Path.{_≡_, refl, sym, ap, subst, _∙_}
+use mathlib.Core.Path.{_≡_, refl, ap, subst}
 use mathlib.Core.List.{List, [], _∷_}
 use mathlib.Core.Bool.{Bool, true, false, cond}
 use Prim.Native.Nat.{ℕ, zero, suc, _+_, _-_, _≤_, _<_}
 use native.Mathlib.Omega.{arith}
 use lib.ListN.{length, getD, drop, drop-of-length-le}
 use lib.Seq.{drop-cons}
-use lib.Dec.{ltb, leb, eqb}
-use borrow.Author.Tests.{eq-eqb, ne-eqb, le-leb, lt-leb, lt-ltb, le-ltb}
+use lib.Dec.{leb, eqb}
+use borrow.Author.Tests.{eq-eqb, ne-eqb, lt-ltb, le-ltb}
 use Rattle.answers.specs.Numbers.{inputTooLong, malformedPlan}
 use Rattle.leb128.specs.Number.{Parsed, value, bad}
 use Rattle.leb128.specs.Answers.{numberAnswer}
@@ -15,7 +15,7 @@ use Rattle.leb128.specs.Laws.Reading.{Rest, groups-rest}
 use Rattle.leb128.specs.declared.Number.{Number}
 use Rattle.leb128.specs.declared.Number.the-variants.{Value, Bad}
 use Rattle.plan_read.specs.Limits.{maxPlan, maxRows, padded}
-use Rattle.plan_read.specs.Plan.{planNumber, row, rowAnswer, Plan, rows, refused, malformed, consRow, afterNumber, rowsFrom, planIn, planOf, noRow}
+use Rattle.plan_read.specs.Plan.{planNumber, row, rowAnswer, Plan, rows, refused, malformed, consRow, afterNumber, rowsFrom, planOf, noRow}
 use Rattle.plan_read.specs.Plan.{rowAt, planAnswer}
 use Rattle.plan_read.specs.Answers.{ReadsRow}
 use Rattle.plan_read.specs.declared.Row.{Row}

@@ -17,7 +17,6 @@ use Rattle.plan_read.specs.declared.RowRead.the-variants.{Found, NotRow}
 use Rattle.plan.specs.declared.PlanSummary.{PlanSummary}
 use Rattle.plan_walk.specs.Walk.{placeAfter, firstRow, walkStart, stay, asked, walkStep}
 use Rattle.plan_walk.specs.declared.Cursor.{Cursor}
-use Rattle.plan_walk.specs.declared.WalkAnswer.{WalkAnswer}
 
 -- the new value where the number is 0, and else the old one
 pub done-new : {A : Type 0} (n : ℕ) (new old : A) → n ≡ done → ifDone n new old ≡ new

@@ -2,7 +2,7 @@
 use mathlib.Core.Path.{_≡_, refl, sym, ap, _∙_}
 use mathlib.Core.List.{List, [], _∷_, map}
 use mathlib.Core.Bool.{Bool, true, false, cond}
-use Prim.Native.Nat.{ℕ, zero, suc, _+_, _≤_, _<_}
+use Prim.Native.Nat.{ℕ, zero, suc, _≤_}
 use native.Mathlib.Omega.{arith}
 use lib.ListN.{length, getD, take, drop}
 use lib.Dec.{ltb, leb, eqb, leb·zero, leb·suc-suc, leb·suc-zero}
@@ -20,7 +20,7 @@ use Rattle.plan_read.specs.declared.Row.{Row}
 use Rattle.plan.specs.declared.Lookup.{Lookup}
 use Rattle.plan_walk.specs.Walk.{placeAfter, firstRow, walkStart, stay, walkStep}
 use Rattle.plan_walker.specs.Walker.{walkerAt, asks, moved}
-use Rattle.plan_walker.specs.Walks.{walkerOf, afterAsks, answerLookup, walkedOut, destinationsOf, Walks, WalksWhole}
+use Rattle.plan_walker.specs.Walks.{walkerOf, afterAsks, answerLookup, walkedOut, destinationsOf, WalksWhole}
 use Rattle.plan_walk.specs.declared.Cursor.{Cursor}
 use Rattle.plan_walker.specs.declared.Walker.{Walker}
 use Rattle.plan_walk.specs.declared.WalkAnswer.{WalkAnswer}

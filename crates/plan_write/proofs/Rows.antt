@@ -2,19 +2,17 @@
 use mathlib.Core.Path.{_≡_, refl, sym, ap, _∙_}
 use mathlib.Core.List.{List, [], _∷_, _++_, append-nil}
 use mathlib.Core.Bool.{Bool, true, false, cond, _&&_}
-use Prim.Native.Nat.{ℕ, zero, suc, _+_, _≤_, _<_}
+use Prim.Native.Nat.{ℕ, suc, _+_, _≤_, _<_}
 use native.Mathlib.Omega.{arith}
-use native.Mathlib.Numerals.{add-one}
-use lib.ListN.{length, getD, drop, set, length-append, drop-of-length-le}
-use lib.Seq.{drop-length, sets, drop-cons, sets-eq}
+use lib.ListN.{length, getD, drop, set, drop-of-length-le}
+use lib.Seq.{drop-length, sets, sets-eq}
 use lib.Dec.{leb, eqb}
-use borrow.Author.Tests.{le-leb, lt-leb, leb-true, eq-eqb, ne-eqb}
+use borrow.Author.Tests.{leb-true, eq-eqb, ne-eqb}
 use Rattle.answers.specs.Numbers.{done, malformedPlan}
 use Rattle.leb128_write.specs.Written.{writtenNumber}
-use Rattle.leb128_write.specs.Laws.{groups-count}
 use Rattle.plan_read.specs.Limits.{maxRows, maxDestination}
 use Rattle.plan_length.specs.Length.{writtenRows, writtenPlan, rowsAllowed, allowed, lengthIs, noLength, lengthOf}
-use Rattle.plan_length.specs.Laws.{and-left, and-right, plan-length}
+use Rattle.plan_length.specs.Laws.{and-left, and-right}
 use Rattle.plan_length.specs.declared.PlanLength.{PlanLength}
 use Rattle.plan_length.proofs.Rows.{here, rows-length, rows-allowed}
 use Rattle.plan_write.specs.Write.{fills, writeRefusal, writtenOf, WritesPlan}

@@ -1,5 +1,5 @@
 -- The twelve facts: the encodings' are those of `encode`, the plans' are computed from the definitions.
-use mathlib.Core.Path.{_≡_, refl}
+use mathlib.Core.Path.{refl}
 use Rattle.encode.specs.Facts.{facts}
 use Rattle.leb128.specs.Number.{groups}
 use Rattle.plan_read.specs.Plan.{rowsFrom, planOf}

@@ -1,6 +1,6 @@
 -- Each turn passes one group: what is left is a number of one group fewer, and the groups passed with those to come are the number's.
 -- Fewer than 128 is the last group.
-use Prim.Native.Nat.{ℕ, _≤_, _+_, _-_}
+use Prim.Native.Nat.{_≤_, _+_, _-_}
 use mathlib.Core.Path.{_≡_, sym, _∙_}
 use native.Mathlib.Omega.{arith}
 use lib.ListN.{length}

@@ -1,7 +1,7 @@
 -- The length asked first says whether the number is above the largest; where it is not, the two tests say that there is no room, and past them there is.
 -- Every refusal stands before the first store.
-use Prim.Native.Nat.{ℕ, _≤_, _<_, _+_}
-use mathlib.Core.Path.{_≡_, refl, sym, ap, _∙_}
+use Prim.Native.Nat.{_≤_, _+_}
+use mathlib.Core.Path.{_≡_, sym, _∙_}
 use native.Mathlib.Omega.{arith}
 use denote.Ref.{now}
 use lib.ListN.{length}

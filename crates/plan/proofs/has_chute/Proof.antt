@@ -1,7 +1,6 @@
 -- Chute 0 fails the first test of the definition.
 -- Any other chute passes it, and what is left is the second test.
 use native.Mathlib.Omega.{arith}
-use borrow.Author.Needs.{needs}
 use borrow.Author.Tests.{le-leb, lt-leb}
 use Prim.Native.Nat.{_≤_, _<_}
 use Rattle.plan.proofs.has_chute.Statement.{statement}

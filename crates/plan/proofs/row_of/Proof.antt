@@ -1,6 +1,6 @@
 -- The answer is set out by the cases of what reading the plan whole finds, and each arm of the match is one of them.
 -- Where rows were found, the test of the chute is the definition's own.
-use mathlib.Core.Path.{_≡_, refl, sym, ap, _∙_}
+use mathlib.Core.Path.{_≡_, sym, ap, _∙_}
 use denote.Ref.{now}
 use Rattle.plan.specs.Answers.{chuteRow, chuteRowOf}
 use Rattle.plan_read.specs.declared.PlanRead.the-variants.{Rows}

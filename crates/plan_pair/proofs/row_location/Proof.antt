@@ -1,6 +1,6 @@
 -- The chute's row in each plan and the plans' refusal are what the definition is made of, and each return is one of its cases.
 -- A row that was found lies inside its plan, so its start is not past its end.
-use mathlib.Core.Path.{_≡_, refl, _∙_}
+use mathlib.Core.Path.{_≡_, _∙_}
 use denote.Ref.{now}
 use borrow.Author.Tests.{eq-eqb, ne-eqb}
 use Rattle.answers.specs.Numbers.{done}

@@ -1,6 +1,6 @@
 -- The two tests are the definition's, and past them the part lies inside.
 -- Before them an empty part is returned, at the slice's own address.
-use mathlib.Core.Path.{_≡_, refl}
+use mathlib.Core.Path.{_≡_}
 use Prim.Native.Nat.{ℕ, _+_, _-_}
 use native.Mathlib.Omega.{arith}
 use borrow.Author.Tests.{le-leb, lt-leb}

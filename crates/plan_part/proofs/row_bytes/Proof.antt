@@ -1,6 +1,6 @@
 -- The location is found, and the part at it returned.
 -- Each is what the definition is made of.
-use mathlib.Core.Path.{_≡_, refl, sym, ap, _∙_}
+use mathlib.Core.Path.{ap, _∙_}
 use denote.Ref.{now}
 use Rattle.plan_part.specs.Part.{partOf, addressOf, rowBytesOf}
 use borrow.Author.Needs.{needs}

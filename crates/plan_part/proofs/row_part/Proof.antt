@@ -1,7 +1,6 @@
 -- The plan that the location names is the one that the part is cut from.
 -- Where it names neither, the part is empty.
-use mathlib.Core.Path.{_≡_, refl, sym, ap, _∙_}
-use Rattle.plan_part.specs.Part.{partFrom, partIn, partOf}
+use mathlib.Core.Path.{_∙_}
 use borrow.Author.Needs.{needs}
 use Rattle.plan_part.proofs.row_part.Statement.{statement}
 use Rattle.plan_part.proofs.row_part.Tie as tie

@@ -1,13 +1,13 @@
 -- What the lookup keeps of the rows read, with the rows to come, makes the answer: a turn that reads a row keeps this, any other ends the reading.
 -- After the last row the answer hangs on whether bytes are left.
-use mathlib.Core.Path.{_≡_, refl, sym, ap, _∙_}
-use Prim.Native.Nat.{ℕ, _≤_, _<_, _-_, _+_}
+use mathlib.Core.Path.{_≡_, sym, ap, _∙_}
+use Prim.Native.Nat.{ℕ, _≤_, _-_}
 use native.Mathlib.Omega.{arith}
 use borrow.Author.Needs.{needs}
 use denote.Ref.{now}
 use lib.ListN.{drop}
 use Rattle.plan_read.specs.Plan.{rowsFrom, planAnswer}
-use Rattle.plan_read.specs.declared.PlanRead.the-variants.{Rows, Refused}
+use Rattle.plan_read.specs.declared.PlanRead.the-variants.{Rows}
 use Rattle.plan_read.proofs.Rows.{keeping, keeping-start, keeping-new, keeping-old, keeping-bad, keeping-over, keeping-done}
 use Rattle.plan_read.proofs.read_rows.Statement.{statement}
 use Rattle.plan_read.proofs.read_rows.Tie as tie

@@ -1,11 +1,11 @@
 -- A long plan is refused before it is read. Else the plan hangs on its first number, by the definition's own cases: too many rows, the rows that
 -- `read_rows` reads, or no number.
-use mathlib.Core.Path.{_≡_, refl, sym, ap, _∙_}
+use mathlib.Core.Path.{_≡_, sym, ap, _∙_}
 use Prim.Native.Nat.{_≤_, _<_}
 use native.Mathlib.Omega.{arith}
 use denote.Ref.{now}
 use borrow.Author.Tests.{le-leb, lt-leb}
-use Rattle.leb128.specs.declared.Number.the-variants.{Value, Bad}
+use Rattle.leb128.specs.declared.Number.the-variants.{Value}
 use Rattle.plan_read.specs.Limits.{maxRows}
 use Rattle.plan_read.specs.Plan.{planOf, planAnswer}
 use Rattle.plan_read.proofs.Rows.{rowsAfter, whole-long, whole-after}

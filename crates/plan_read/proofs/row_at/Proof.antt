@@ -1,6 +1,6 @@
 -- A row is a number: the number's answer, case by case, is the row reader's.
 -- The law says so of every number, and each arm of the match is one of its cases.
-use mathlib.Core.Path.{_≡_, ap}
+use mathlib.Core.Path.{ap}
 use Rattle.plan_read.proofs.Rows.{rowNumber, read-row}
 use borrow.Author.Needs.{needs}
 use Rattle.plan_read.proofs.row_at.Statement.{statement}

@@ -1,16 +1,16 @@
 -- Laws of a plan's rows: each lies inside the plan, has one to three bytes, and its bytes alone read as its destination.
-use mathlib.Core.Path.{_≡_, refl, ap, _∙_}
+use mathlib.Core.Path.{_≡_, _∙_}
 use mathlib.Core.List.{List, [], _∷_}
 use mathlib.Core.Bool.{Bool, true, false, cond}
-use Prim.Native.Nat.{ℕ, zero, suc, _+_, _-_, _≤_, _<_}
+use Prim.Native.Nat.{ℕ, zero, suc, _+_, _-_, _<_}
 use native.Mathlib.Omega.{arith}
-use lib.ListN.{length, getD, take, drop, length-drop}
+use lib.ListN.{length, getD, drop, length-drop}
 use lib.Seq.{drop-drop}
 use lib.Dec.{ltb, leb}
 use Rattle.answers.specs.Numbers.{inputTooLong}
 use Rattle.leb128.specs.Number.{Parsed, value, bad}
 use Rattle.leb128.specs.Laws.Reading.{limit-three, Used, groups-used}
-use Rattle.plan_read.specs.Limits.{maxPlan, maxRows, maxDestination, padded}
+use Rattle.plan_read.specs.Limits.{maxPlan, maxRows, padded}
 use Rattle.plan_read.specs.Plan.{Plan, rows, refused, malformed, consRow, afterNumber, planNumber, row, rowsFrom, planIn, planOf, noRow}
 use Rattle.plan_read.specs.Places.{RowIn}
 use Rattle.plan_read.specs.declared.Row.{Row}

@@ -1,6 +1,6 @@
 -- The place is the number reader's, case by case.
 -- Each arm of the match is one of the cases.
-use mathlib.Core.Path.{_≡_, sym, ap, _∙_}
+use mathlib.Core.Path.{sym, ap, _∙_}
 use Rattle.plan_read.specs.Plan.{planNumber}
 use Rattle.plan_walk.proofs.Walking.{placePast, place-past}
 use borrow.Author.Needs.{needs}

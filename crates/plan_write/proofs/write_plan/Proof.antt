@@ -1,7 +1,7 @@
 -- The length asked first says whether the rows keep the rules; where they do and fill the buffer, the two runs of stores are the whole plan.
 -- Every refusal stands before the first store.
 use Prim.Native.Nat.{ℕ, _≤_, _+_}
-use mathlib.Core.Path.{_≡_, refl, sym, ap, _∙_}
+use mathlib.Core.Path.{_≡_, ap, _∙_}
 use native.Mathlib.Omega.{arith}
 use denote.Ref.{now}
 use mathlib.Core.List.{List}

@@ -1,7 +1,7 @@
 -- The stores of the rows to come, made on what is stored so far, are the stores of all rows: each turn stores one row.
 -- The rows to come are allowed, and there is room for them, so that each is written.
 use Prim.Native.Nat.{ℕ, _≤_, _<_, _+_, _-_}
-use mathlib.Core.Path.{_≡_, refl, sym, ap, _∙_}
+use mathlib.Core.Path.{_≡_, refl, sym, _∙_}
 use mathlib.Core.Bool.{true}
 use native.Mathlib.Omega.{arith}
 use borrow.Author.Needs.{needs}
