@@ -1,12 +1,11 @@
 -- An ask that finds a row is of a walk with the number 0, which it keeps; any other stays where it is.
 use mathlib.Core.Path.{_≡_, refl, sym}
-use mathlib.Core.List.{List}
 use Prim.Native.Nat.{ℕ, zero, suc}
 use lib.ListN.{drop}
 use Rattle.answers.specs.Done.{ifDone}
-use Rattle.plan.specs.Plan.{planNumber, rowAnswer}
-use Rattle.plan.specs.declared.RowRead.{RowRead}
-use Rattle.plan.specs.declared.RowRead.the-variants.{Found, NotRow}
+use Rattle.plan_read.specs.Plan.{planNumber, rowAnswer}
+use Rattle.plan_read.specs.declared.RowRead.{RowRead}
+use Rattle.plan_read.specs.declared.RowRead.the-variants.{Found, NotRow}
 use Rattle.plan_walk.specs.Walk.{stay, asked, walkStep}
 use Rattle.plan_walk.specs.declared.Cursor.{Cursor}
 use Rattle.c_plan.specs.Walk.{KeepsNumber}

@@ -2,7 +2,8 @@
 ghost use mathlib.Core.Path.{_≡_};
 ghost use Rattle.plan.specs.Answers.{summaryOf, lookupOf};
 ghost use Rattle.plan_pair.specs.Pair.{locationOf};
-ghost use Rattle.plan_write.specs.Write.{lengthOf, WritesPlan};
+ghost use Rattle.plan_length.specs.Length.{lengthOf};
+ghost use Rattle.plan_write.specs.Write.{WritesPlan};
 ghost use Rattle.plan_walk.specs.Walk.{walkStart, walkStep};
 ghost use Rattle.c_plan.specs.Row.{exportedLocation};
 ghost use Rattle.c_plan.specs.Walk.{exportedAnswer};
@@ -10,8 +11,8 @@ use c_plan::CRow;
 use c_plan::CWalk;
 use plan::Lookup;
 use plan::PlanSummary;
+use plan_length::PlanLength;
 use plan_walk::Cursor;
-use plan_write::PlanLength;
 
 #[no_mangle]
 pub extern "C" fn hf_plan_read(plan: &[u8]) -> PlanSummary
@@ -38,7 +39,7 @@ pub extern "C" fn hf_plan_row(site: &[u8], house: &[u8], chute: u64) -> CRow
 pub extern "C" fn hf_plan_length(rows: &[u32]) -> PlanLength
     ensures { λ r. ⌜ r ≡ lengthOf (now (rows .entry)) ⌝ }
 {
-    plan_write::plan_length(rows)
+    plan_length::plan_length(rows)
 }
 
 #[no_mangle]

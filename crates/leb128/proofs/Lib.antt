@@ -1,3 +1,1 @@
-pub mod Theorems
 pub mod Reading
-pub mod Writing

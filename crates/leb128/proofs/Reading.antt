@@ -1,8 +1,8 @@
 -- Laws of a number read group by group: what `groups` is at a place of a list by the byte there, what the groups read so far make of the groups to
 -- come, and the bounds of their sum.
 use mathlib.Core.Path.{_≡_, refl, sym, ap, _∙_}
-use mathlib.Core.List.{List, [], _∷_}
-use mathlib.Core.Bool.{Bool, true, false, cond, _||_}
+use mathlib.Core.List.{List, _∷_}
+use mathlib.Core.Bool.{Bool, true, false, _||_}
 use Prim.Native.Nat.{ℕ, zero, suc, _+_, _*_, _-_, _%_, _≤_, _<_}
 use native.Mathlib.Nat.{mul-add, mul-assoc, add-assoc, mul-le-mul-left, mul-one}
 use native.Mathlib.Numerals.{add-one}
@@ -13,7 +13,7 @@ use lib.Dec.{ltb}
 use borrow.Author.Tests.{lt-ltb, le-ltb}
 use Rattle.leb128.specs.Number.{Parsed, value, bad, lastGroup, nextGroup, groups, limit, maxNumber}
 use Rattle.leb128.specs.Answers.{ReadsNumber}
-use Rattle.leb128.specs.Laws.Writing.{limit-least}
+use Rattle.leb128.specs.Laws.Reading.{limit-least}
 use Rattle.leb128.specs.declared.Number.the-variants.{Value, Bad}
 
 -- the answer, by what was read

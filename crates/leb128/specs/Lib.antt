@@ -1,6 +1,3 @@
 pub mod Number
-pub mod Written
 pub mod Answers
-pub mod Room
-pub mod Theorems
 pub mod Laws

@@ -1,12 +1,10 @@
-// One seven-bit number (LEB128; docs/RULES.md, 'Chute plan'): reading it at a place, how many bytes it takes, and writing it at a place of a lent buffer.
-mod put; // put.rt: the stores, once it is known that there is room
-
+// One seven-bit number (LEB128; docs/RULES.md, 'Chute plan'), read at a place.
 ghost use mathlib.Core.Path.{_≡_};
 ghost use mathlib.Core.Bool.{_||_};
 ghost use lib.Dec.{ltb};
-ghost use lib.ListN.{length, drop};
+ghost use lib.ListN.{drop};
 ghost use Rattle.leb128.specs.Number.{number};
-ghost use Rattle.leb128.specs.Answers.{ReadsNumber, numberLength, writtenPast, numberWritten};
+ghost use Rattle.leb128.specs.Answers.{ReadsNumber};
 
 // The largest number of three groups, as specs/Number.antt has it.
 pub const MAX_NUMBER: u32 = 2097151;
@@ -66,38 +64,4 @@ pub fn number_at(bytes: &[u8], at: usize, padded: bool) -> Number
         next += 1;
         empty = padded;
     }
-}
-
-// How many bytes a number takes, in the fewest groups: 0 for one above the largest.
-pub fn number_length(value: u32) -> usize
-    ensures { λ r. ⌜ r ≡ numberLength value ⌝ }
-{
-    if MAX_NUMBER < value {
-        return 0;
-    }
-    let mut rest = value;
-    let mut count: usize = 1;
-    while 128 <= rest {
-        rest /= 128;
-        count += 1;
-    }
-    count
-}
-
-// Writes a number at a place, in the fewest groups, and answers the place past it; 0, and nothing is written, where it is above the largest or there is no
-// room for it.
-pub fn write_number(out: &mut [u8], at: usize, value: u32) -> usize
-    ensures { λ r. ⌜ (r ≡ writtenPast at value (length (now (out .entry)))) × (now (out .exit) ≡ numberWritten at value (now (out .entry))) ⌝ }
-{
-    let length = number_length(value);
-    if length == 0 {
-        return 0;
-    }
-    if out.len() < at {
-        return 0;
-    }
-    if out.len() - at < length {
-        return 0;
-    }
-    put::put_groups(out, at, value)
 }

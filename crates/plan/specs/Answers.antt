@@ -1,39 +1,17 @@
 -- The questions on one plan, and their numbers: 5 and 9 are the plan's, 10 is the chute's and comes after them. Each answer is set out by the cases of
 -- what reading finds.
 use Prim.Native.Nat.{ℕ}
-use mathlib.Core.Path.{_≡_}
 use mathlib.Core.List.{List}
 use mathlib.Core.Bool.{Bool, cond, _&&_}
 use lib.Dec.{leb}
-use Rattle.answers.specs.Numbers.{done, malformedPlan, noSuchChute}
-use Rattle.leb128.specs.Number.{Parsed, value, bad}
-use Rattle.plan.specs.Plan.{row, noRow, rowAnswer, planOf, planAnswer}
-use Rattle.plan.specs.declared.Row.{Row}
-use Rattle.plan.specs.declared.RowRead.{RowRead}
-use Rattle.plan.specs.declared.RowRead.the-variants.{Found, NotRow}
-use Rattle.plan.specs.declared.PlanRead.{PlanRead}
-use Rattle.plan.specs.declared.PlanRead.the-variants.{Rows, Refused}
+use Rattle.answers.specs.Numbers.{done, noSuchChute}
+use Rattle.plan_read.specs.Plan.{noRow, planOf, planAnswer}
+use Rattle.plan_read.specs.declared.Row.{Row}
+use Rattle.plan_read.specs.declared.PlanRead.{PlanRead}
+use Rattle.plan_read.specs.declared.PlanRead.the-variants.{Rows, Refused}
 use Rattle.plan.specs.declared.PlanSummary.{PlanSummary}
+use Rattle.plan.specs.declared.ChuteRow.{ChuteRow}
 use Rattle.plan.specs.declared.Lookup.{Lookup}
-
--- number and values of each answer of the row reader: 0 and the row; or 9, no row, and the place of the failure
-pub record RowValues : Type 0 where
-  pub number : ℕ
-  pub found : Row
-  pub place : ℕ
-
-abbrev pub rowValues : RowRead → RowValues
-rowValues (Found r) = record { number = done; found = r; place = 0 }
-rowValues (NotRow place) = record { number = malformedPlan; found = noRow; place = place }
-
-abbrev pub parsedRow : ℕ → Parsed → RowValues
-parsedRow at (value v next rest) = record { number = done; found = row v at next; place = 0 }
-parsedRow at (bad place) = record { number = malformedPlan; found = noRow; place = place }
-
--- r answers what was read at a place
-pub record ReadsRow (at : ℕ) (p : Parsed) (r : RowRead) : Type 0 where
-  pub answer : r ≡ rowAnswer at p
-  pub values : rowValues r ≡ parsedRow at p
 
 -- reading: 0 and the number of rows, or the plan's refusal and no rows
 abbrev pub summary : PlanRead → PlanSummary
@@ -47,13 +25,26 @@ summaryOf s = summary (planAnswer 0 (planOf s))
 abbrev pub hasChute : ℕ → ℕ → Bool
 hasChute count chute = leb 1 chute && leb chute count
 
--- the destination of a chute: 0 and the destination, or the plan's refusal, or 10 where the plan has no such chute; and then destination 0
+-- the row of a chute: 0 and the row, or the plan's refusal, or 10 where the plan has no such chute; and then a row that is all 0
+abbrev pub rowFound : Row → ChuteRow
+rowFound r = record { number = done; row = r }
+
+abbrev pub noChuteRow : ℕ → ChuteRow
+noChuteRow n = record { number = n; row = noRow }
+
+abbrev pub chuteRow : ℕ → PlanRead → ChuteRow
+chuteRow chute (Rows count row) = cond (hasChute count chute) (rowFound row) (noChuteRow noSuchChute)
+chuteRow chute (Refused n place) = noChuteRow n
+
+unfoldable pub chuteRowOf : List ℕ → ℕ → ChuteRow
+chuteRowOf s chute = chuteRow chute (planAnswer chute (planOf s))
+
+-- the destination of a chute: that of its row, and 0 on a refusal
+abbrev pub destinationOf : ChuteRow → Lookup
+destinationOf r = record { number = r .number; destination = r .row .destination }
+
 abbrev pub noDestination : ℕ → Lookup
 noDestination n = record { number = n; destination = 0 }
 
-abbrev pub lookup : ℕ → PlanRead → Lookup
-lookup chute (Rows count row) = cond (hasChute count chute) (record { number = done; destination = row .destination }) (noDestination noSuchChute)
-lookup chute (Refused n place) = noDestination n
-
 unfoldable pub lookupOf : List ℕ → ℕ → Lookup
-lookupOf s chute = lookup chute (planAnswer chute (planOf s))
+lookupOf s chute = destinationOf (chuteRowOf s chute)

@@ -1,4 +1,74 @@
-pub mod Lookup
-pub mod Rows
-pub mod Places
-pub mod Refusals
+-- Laws of the questions on one plan: of a plan that is not refused, reading, rows and lookups agree with the list of its rows at every chute, and a row that
+-- is found lies inside the plan.
+use mathlib.Core.Path.{_≡_, refl, ap}
+use mathlib.Core.List.{List}
+use mathlib.Core.Bool.{Bool, true, false, cond, _&&_}
+use Prim.Native.Nat.{ℕ, zero, suc, _≤_, _<_}
+use native.Mathlib.Omega.{arith}
+use lib.ListN.{length, getD}
+use lib.Dec.{leb}
+use borrow.Author.Tests.{le-leb, lt-leb, leb-true}
+use Rattle.answers.specs.Numbers.{done, noSuchChute}
+use Rattle.plan_read.specs.Plan.{Plan, rows, refused, planOf, planAnswer, noRow}
+use Rattle.plan_read.specs.Places.{RowIn}
+use Rattle.plan_read.specs.Laws.Rows.{RowsIn, plan-in}
+use Rattle.plan_read.specs.Laws.Refusals.{Numbered, plan-numbered}
+use Rattle.plan_read.specs.declared.Row.{Row}
+use Rattle.plan.specs.Answers.{summaryOf, hasChute, rowFound, noChuteRow, chuteRow, chuteRowOf, destinationOf, noDestination, lookupOf}
+
+module _ (s : List ℕ) (l : List Row) (e : planOf s ≡ rows l) where
+  pub chute-row : (c : ℕ) → c < length l → chuteRowOf s (suc c) ≡ rowFound (getD l c noRow)
+  unfolding chuteRowOf
+  chute-row c h =
+      let one : 1 ≤ suc c = omega arith in
+      let some : suc c ≤ length l = omega arith in
+      rw (e, le-leb 1 (suc c) one, le-leb (suc c) (length l) some)
+
+  pub chute-zero : chuteRowOf s 0 ≡ noChuteRow noSuchChute
+  unfolding chuteRowOf
+  chute-zero = rw e
+
+  pub chute-past : (c : ℕ) → length l < c → chuteRowOf s c ≡ noChuteRow noSuchChute
+  unfolding chuteRowOf
+  chute-past c h = let one : 1 ≤ c = omega arith in rw (e, le-leb 1 c one, lt-leb _ _ h)
+
+  pub lookup-row : (c : ℕ) → c < length l → lookupOf s (suc c) ≡ record { number = done; destination = getD l c noRow .destination }
+  unfolding lookupOf
+  lookup-row c h = ap destinationOf (chute-row c h)
+
+  pub lookup-zero : lookupOf s 0 ≡ noDestination noSuchChute
+  unfolding lookupOf
+  lookup-zero = ap destinationOf chute-zero
+
+  pub lookup-past : (c : ℕ) → length l < c → lookupOf s c ≡ noDestination noSuchChute
+  unfolding lookupOf
+  lookup-past c h = ap destinationOf (chute-past c h)
+
+  pub count-rows : summaryOf s ≡ record { number = done; rows = length l }
+  unfolding summaryOf
+  count-rows = rw e
+
+-- what it says that a plan has a chute
+pub has-chute : (n chute : ℕ) → hasChute n chute ≡ true → (1 ≤ chute) × (chute ≤ n)
+has-chute n chute e = go (leb 1 chute) (leb chute n) refl refl e
+  where
+    go : (a b : Bool) → leb 1 chute ≡ a → leb chute n ≡ b → (a && b) ≡ true → (1 ≤ chute) × (chute ≤ n)
+    go true true p q e = (leb-true _ _ p, leb-true _ _ q)
+    go true false p q e = let z : _≡_ {A = ℕ} 0 1 = cc in absurd (omega arith)
+    go false b p q e = let z : _≡_ {A = ℕ} 0 1 = cc in absurd (omega arith)
+
+-- the row of a chute that the plan has lies inside it
+pub found-in : (s : List ℕ) (chute : ℕ) → chuteRowOf s chute .number ≡ done → RowIn s (chuteRowOf s chute .row)
+unfolding chuteRowOf
+found-in s chute z = go chute (planOf s) (plan-in s) (plan-numbered s) z
+  where
+    pick : (n c : ℕ) (r : Row) (t : Bool) → hasChute n (suc c) ≡ t → ((suc c ≤ n) → RowIn s r)
+        → cond t (rowFound r) (noChuteRow noSuchChute) .number ≡ done → RowIn s (cond t (rowFound r) (noChuteRow noSuchChute) .row)
+    pick n c r true h i z = i (has-chute n (suc c) h .1)
+    pick n c r false h i z = absurd (omega arith)
+
+    go : (chute : ℕ) (p : Plan) → RowsIn s p → Numbered p → chuteRow chute (planAnswer chute p) .number ≡ done
+        → RowIn s (chuteRow chute (planAnswer chute p) .row)
+    go zero (rows l) a u z = absurd (omega arith)
+    go (suc c) (rows l) a u z = pick (length l) c (getD l c noRow) (hasChute (length l) (suc c)) refl (λ h. a c (omega arith)) z
+    go chute (refused n place) a u z = absurd (omega arith)

@@ -1,5 +1,2 @@
-pub mod Limits
-pub mod Plan
 pub mod Answers
-pub mod Examples
 pub mod Laws

@@ -1,127 +1,8 @@
-// The chute plan (docs/RULES.md, 'Chute plan'): the rows of a plan, reading a plan whole, the destination of a chute.
+// The questions on one chute plan (docs/RULES.md, 'Chute plan'): the number of its rows, the row of a chute, and the destination of a chute.
+use plan_read::PlanRead;
+use plan_read::Row;
 ghost use mathlib.Core.Path.{_≡_};
-ghost use lib.ListN.{drop};
-ghost use Rattle.plan.specs.Plan.{planNumber, placeOf, rowsFrom, planOf, planAnswer};
-ghost use Rattle.plan.specs.Answers.{ReadsRow, hasChute, noDestination, summaryOf, lookupOf};
-use leb128::Number;
-
-// The limits, as specs/Limits.antt has them.
-pub const MAX_PLAN: usize = 65536;
-
-pub const MAX_ROWS: u32 = 4096;
-
-pub const MAX_DESTINATION: u32 = leb128::MAX_NUMBER;
-
-// Whether a number in more groups than it needs is read.
-pub const PADDED: bool = true;
-
-// A row: its destination, and where its bytes start and end in the plan.
-pub struct Row {
-    pub destination: u32,
-    pub start: usize,
-    pub end: usize,
-}
-
-// What the row reader finds at a place: a row, or the place at which reading failed.
-pub enum RowRead {
-    Found(Row),
-    NotRow(usize),
-}
-
-// The row reader: the row at a place of a plan.
-pub fn row_at(plan: &[u8], at: usize) -> RowRead
-    ensures { λ r. ⌜ ReadsRow at (planNumber at (drop at (now (plan .entry)))) r ⌝ }
-{
-    match leb128::number_at(plan, at, PADDED) {
-        Number::Value { value, next } => RowRead::Found(Row {
-            destination: value,
-            start: at,
-            end: next,
-        }),
-        Number::Bad(place) => RowRead::NotRow(place),
-    }
-}
-
-// The place at which reading failed, 0 for a row.
-fn place_of(read: RowRead) -> usize
-    ensures { λ r. ⌜ r ≡ placeOf read ⌝ }
-{
-    match read {
-        RowRead::Found(_) => 0,
-        RowRead::NotRow(place) => place,
-    }
-}
-
-// What reading a whole plan finds: the number of rows and the row of one chute (all 0 where there is none); or the refusal's number, 5 or 9, and the place
-// at which the plan is malformed (0 with 5).
-pub enum PlanRead {
-    Rows { count: u32, row: Row },
-    Refused { number: u8, place: usize },
-}
-
-fn malformed(place: usize) -> PlanRead
-    ensures { λ r. ⌜ r ≡ PlanRead.Refused 9 place ⌝ }
-{
-    PlanRead::Refused {
-        number: answers::MALFORMED_PLAN,
-        place,
-    }
-}
-
-fn wide(x: u32) -> u64
-    ensures { λ r. ⌜ r ≡ x ⌝ }
-{
-    x as u64
-}
-
-// Reads the rows from a place on, `count` of them and then nothing more. The first bad row ends the reading.
-fn read_rows(plan: &[u8], first: usize, count: u32, chute: u64) -> PlanRead
-    ensures { λ r. ⌜ r ≡ planAnswer chute (rowsFrom count first (drop first (now (plan .entry)))) ⌝ }
-{
-    let mut found = Row {
-        destination: 0,
-        start: 0,
-        end: 0,
-    };
-    let mut at = first;
-    let mut i: u32 = 0;
-    while i < count {
-        let read = row_at(plan, at);
-        let RowRead::Found(row) = read else {
-            return malformed(place_of(read));
-        };
-        i += 1;
-        at = row.end;
-        if wide(i) == chute {
-            found = row;
-        }
-    }
-    if at < plan.len() {
-        return malformed(at);
-    }
-    PlanRead::Rows { count, row: found }
-}
-
-// Reads a plan whole, in one pass, and keeps the row of one chute.
-pub fn read_whole(plan: &[u8], chute: u64) -> PlanRead
-    ensures { λ r. ⌜ r ≡ planAnswer chute (planOf (now (plan .entry))) ⌝ }
-{
-    if MAX_PLAN < plan.len() {
-        return PlanRead::Refused {
-            number: answers::INPUT_TOO_LONG,
-            place: 0,
-        };
-    }
-    match leb128::number_at(plan, 0, PADDED) {
-        Number::Value { value, next } => {
-            if MAX_ROWS < value {
-                return malformed(0);
-            }
-            read_rows(plan, next, value, chute)
-        }
-        Number::Bad(place) => malformed(place),
-    }
-}
+ghost use Rattle.plan.specs.Answers.{summaryOf, hasChute, noChuteRow, chuteRowOf, lookupOf};
 
 // The answer of reading a plan: 0 and the number of rows, or the refusal's number.
 #[repr(C)]
@@ -133,7 +14,7 @@ pub struct PlanSummary {
 pub fn read_plan(plan: &[u8]) -> PlanSummary
     ensures { λ r. ⌜ r ≡ summaryOf (now (plan .entry)) ⌝ }
 {
-    match read_whole(plan, 0) {
+    match plan_read::read_whole(plan, 0) {
         PlanRead::Rows { count, row: _ } => PlanSummary {
             number: answers::DONE,
             rows: count,
@@ -149,7 +30,43 @@ pub fn has_chute(count: u32, chute: u64) -> bool
     if chute == 0 {
         return false;
     }
-    chute <= wide(count)
+    chute <= count as u64
+}
+
+// The row of one chute: 0 and the row, or the refusal's number and a row that is all 0.
+pub struct ChuteRow {
+    pub number: u8,
+    pub row: Row,
+}
+
+fn no_row(number: u8) -> ChuteRow
+    ensures { λ r. ⌜ r ≡ noChuteRow number ⌝ }
+{
+    ChuteRow {
+        number,
+        row: Row {
+            destination: 0,
+            start: 0,
+            end: 0,
+        },
+    }
+}
+
+pub fn row_of(plan: &[u8], chute: u64) -> ChuteRow
+    ensures { λ r. ⌜ r ≡ chuteRowOf (now (plan .entry)) chute ⌝ }
+{
+    match plan_read::read_whole(plan, chute) {
+        PlanRead::Rows { count, row } => {
+            if has_chute(count, chute) {
+                return ChuteRow {
+                    number: answers::DONE,
+                    row,
+                };
+            }
+            no_row(answers::NO_SUCH_CHUTE)
+        }
+        PlanRead::Refused { number, place: _ } => no_row(number),
+    }
 }
 
 // The answer for one chute: 0 and the destination, or the refusal's number.
@@ -159,28 +76,12 @@ pub struct Lookup {
     pub number: u8,
 }
 
-fn no_destination(number: u8) -> Lookup
-    ensures { λ r. ⌜ r ≡ noDestination number ⌝ }
-{
-    Lookup {
-        number,
-        destination: 0,
-    }
-}
-
 pub fn destination(plan: &[u8], chute: u64) -> Lookup
     ensures { λ r. ⌜ r ≡ lookupOf (now (plan .entry)) chute ⌝ }
 {
-    match read_whole(plan, chute) {
-        PlanRead::Rows { count, row } => {
-            if has_chute(count, chute) {
-                return Lookup {
-                    number: answers::DONE,
-                    destination: row.destination,
-                };
-            }
-            no_destination(answers::NO_SUCH_CHUTE)
-        }
-        PlanRead::Refused { number, place: _ } => no_destination(number),
+    let found = row_of(plan, chute);
+    Lookup {
+        destination: found.row.destination,
+        number: found.number,
     }
 }

@@ -94,8 +94,8 @@ fn row<'a>(site: &'a [u8], house: &'a [u8], chute: u64) {
     answer(location.number, source_number(source));
     field(location.start as u64);
     field(location.length as u64);
-    testing::print_bytes(plan_pair::row_bytes(site, house, chute));
-    testing::print_bytes(plan_pair::row_part(site, house, location));
+    testing::print_bytes(plan_part::row_bytes(site, house, chute));
+    testing::print_bytes(plan_part::row_part(site, house, location));
 }
 
 // Rows of four bytes each: the length they take, and then the refusal and all of the buffer for that length, one byte more, one less, and none.
@@ -117,7 +117,7 @@ fn fill(rows: &mut [u32], bytes: &[u8]) {
 }
 
 fn write_each(rows: &[u32]) {
-    let needed = plan_write::plan_length(rows);
+    let needed = plan_length::plan_length(rows);
     let length = needed.length;
     answer(needed.number, length as u64);
     write(rows, length);

@@ -1,22 +1,39 @@
--- Where a row is, by the cases of what reading the two plans finds.
-use mathlib.Core.Path.{_≡_, refl, ap, _∙_}
+-- Where a row is, from the chute's row in each plan and the refusal that the two plans make.
+use mathlib.Core.Path.{_≡_, sym, ap, _∙_}
 use mathlib.Core.List.{List}
-use Prim.Native.Nat.{ℕ}
-use Rattle.plan.specs.Plan.{planOf, planAnswer}
-use Rattle.plan.specs.declared.Row.{Row}
-use Rattle.plan.specs.declared.PlanRead.{PlanRead}
-use Rattle.plan.specs.declared.PlanRead.the-variants.{Rows, Refused}
-use Rattle.plan_pair.specs.Pair.{noLocation, refusalOf, smallerOf, location, locationOf}
+use Prim.Native.Nat.{ℕ, _≤_}
+use native.Mathlib.Omega.{arith}
+use lib.Dec.{eqb}
+use borrow.Author.Tests.{eq-eqb, ne-eqb}
+use mathlib.Core.Bool.{cond}
+use Rattle.answers.specs.Numbers.{done}
+use Rattle.plan.specs.Answers.{chuteRowOf}
+use Rattle.plan.specs.Laws.{found-in}
+use Rattle.plan.specs.declared.ChuteRow.{ChuteRow}
+use Rattle.plan_pair.specs.Pair.{noLocation, planRefusal, smallerOf, plansRefusal, locationFound, location, locationOf}
+use Rattle.plan_pair.specs.declared.RowLocation.{RowLocation}
 
-pub location-of : (site house : List ℕ) (chute : ℕ) (p q : PlanRead) → p ≡ planAnswer chute (planOf site) → q ≡ planAnswer chute (planOf house)
-    → location chute p q ≡ locationOf site house chute
-unfolding locationOf
-location-of site house chute p q e f = rw (e, f)
+-- a row that was found does not start past its end
+pub row-ordered : (s : List ℕ) (chute : ℕ) (r : ChuteRow) → r ≡ chuteRowOf s chute → r .number ≡ done → r .row .start ≤ r .row .end
+row-ordered s chute r e z =
+    let i = found-in s chute (ap (λ (q : ChuteRow). q .number) (sym e) ∙ z) in
+    rw e (omega (arith, i .some))
 
--- a refused plan
-module _ (chute : ℕ) (p q : PlanRead) where
-  pub site-refused : (n m k a place : ℕ) → n ≡ refusalOf p → m ≡ refusalOf q → k ≡ smallerOf n m → p ≡ Refused a place → noLocation k ≡ location chute p q
-  site-refused n m k a place en em ek e = rw (ek, en, em, e)
+module _ (site house : List ℕ) (chute : ℕ) (s h : ChuteRow) (es : s ≡ chuteRowOf site chute) (eh : h ≡ chuteRowOf house chute) (a b k : ℕ)
+    (ea : a ≡ planRefusal (s .number)) (eb : b ≡ planRefusal (h .number)) (ek : k ≡ smallerOf a b) where
+  -- by a refusal of the plans
+  abbrev chosen : ℕ → RowLocation
+  chosen n = cond (eqb n done) (locationFound s h) (noLocation n)
 
-  pub house-refused : (m n b place : ℕ) (r : Row) → m ≡ refusalOf q → p ≡ Rows n r → q ≡ Refused b place → noLocation m ≡ location chute p q
-  house-refused m n b place r em e f = rw (em, e, f)
+  plans : k ≡ plansRefusal s h
+  plans = ek ∙ rw (ea, eb)
+
+  whole : location s h ≡ locationOf site house chute
+  unfolding locationOf
+  whole = rw (es, eh)
+
+  pub refused-is : (k ≡ done → ⊥) → noLocation k ≡ locationOf site house chute
+  refused-is z = sym (rw (ne-eqb k done z)) ∙ ap chosen plans ∙ whole
+
+  pub found-is : k ≡ done → locationFound s h ≡ locationOf site house chute
+  found-is z = sym (rw (eq-eqb k done z)) ∙ ap chosen plans ∙ whole

@@ -1,3 +1,1 @@
 pub mod Pair
-pub mod PairLaws
-pub mod Parts

@@ -1,10 +1,9 @@
-// A site plan and a house plan lent together (docs/RULES.md, 'Chute plan'): the bytes of a chute's row in the site plan if it has that chute, else in the
-// house plan.
-use plan::PlanRead;
-use plan::Row;
+// Where a chute's row is, in a site plan and a house plan lent together (docs/RULES.md, 'Chute plan'): in the site plan if it has that chute, else in
+// the house plan.
+use plan_read::Row;
 ghost use mathlib.Core.Path.{_≡_};
 ghost use Prim.Native.Nat.{_≤_};
-ghost use Rattle.plan_pair.specs.Pair.{noLocation, locationIn, refusalOf, smallerOf, locationOf, partFrom, addressFrom, partOf, addressOf, RowBytes};
+ghost use Rattle.plan_pair.specs.Pair.{noLocation, locationIn, planRefusal, smallerOf, locationOf};
 
 // The plan that a row came from.
 pub enum Source {
@@ -44,20 +43,23 @@ fn located(source: Source, row: Row) -> RowLocation
     }
 }
 
-// The refusal that reading a plan found, 0 where it found rows.
-fn refusal_of(read: PlanRead) -> u8
-    ensures { λ r. ⌜ r ≡ refusalOf read ⌝ }
+// A plan's own refusal: none where the plan was read, be it without the chute.
+fn plan_refusal(number: u8) -> u8
+    ensures { λ r. ⌜ r ≡ planRefusal number ⌝ }
 {
-    match read {
-        PlanRead::Rows { count: _, row: _ } => answers::DONE,
-        PlanRead::Refused { number, place: _ } => number,
+    if number == answers::NO_SUCH_CHUTE {
+        return answers::DONE;
     }
+    number
 }
 
-// Of a refusal and another, or none where that is 0, the smaller is given.
+// Of two refusals, either of which is none where it is 0, the smaller is given.
 fn smaller(a: u8, b: u8) -> u8
     ensures { λ r. ⌜ r ≡ smallerOf a b ⌝ }
 {
+    if a == answers::DONE {
+        return b;
+    }
     if b == answers::DONE {
         return a;
     }
@@ -68,64 +70,17 @@ fn smaller(a: u8, b: u8) -> u8
 pub fn row_location(site: &[u8], house: &[u8], chute: u64) -> RowLocation
     ensures { λ r. ⌜ r ≡ locationOf (now (site .entry)) (now (house .entry)) chute ⌝ }
 {
-    let in_site = plan::read_whole(site, chute);
-    let in_house = plan::read_whole(house, chute);
-    let PlanRead::Rows {
-        count: site_count,
-        row: site_row,
-    } = in_site
-    else {
-        return refused(smaller(refusal_of(in_site), refusal_of(in_house)));
-    };
-    let PlanRead::Rows {
-        count: house_count,
-        row: house_row,
-    } = in_house
-    else {
-        return refused(refusal_of(in_house));
-    };
-    if plan::has_chute(site_count, chute) {
-        return located(Source::Site, site_row);
+    let in_site = plan::row_of(site, chute);
+    let in_house = plan::row_of(house, chute);
+    let refusal = smaller(plan_refusal(in_site.number), plan_refusal(in_house.number));
+    if refusal != answers::DONE {
+        return refused(refusal);
     }
-    if plan::has_chute(house_count, chute) {
-        return located(Source::House, house_row);
+    if in_site.number == answers::DONE {
+        return located(Source::Site, in_site.row);
+    }
+    if in_house.number == answers::DONE {
+        return located(Source::House, in_house.row);
     }
     refused(answers::NO_SUCH_CHUTE)
-}
-
-// The bytes from a place on; none where they would run past the end.
-fn part(bytes: &[u8], start: usize, length: usize) -> &[u8]
-    ensures { λ r. ⌜ (now r ≡ partFrom (now (bytes .entry)) start length) × (r .ptr ≡ addressFrom (bytes .entry) start length) ⌝ }
-{
-    if bytes.len() < start {
-        return &bytes[..0];
-    }
-    if bytes.len() - start < length {
-        return &bytes[..0];
-    }
-    let end = start + length;
-    &bytes[start..end]
-}
-
-// The bytes at a location, as a part of the plan that it names; none where it names neither or runs past the plan's end.
-pub fn row_part<'a>(site: &'a [u8], house: &'a [u8], location: RowLocation) -> &'a [u8]
-    ensures { λ r. ⌜ (now r ≡ partOf (now (site .entry)) (now (house .entry)) location) × (r .ptr ≡ addressOf (site .entry) (house .entry) location) ⌝ }
-{
-    let source = location.source;
-    let start = location.start;
-    let length = location.length;
-    match source {
-        Source::Site => part(site, start, length),
-        Source::House => part(house, start, length),
-        Source::Neither => &site[..0],
-    }
-}
-
-// The bytes of a chute's row, as a part of the plan it came from. A row has one to three bytes, so the part is empty exactly on a refusal (specs/Parts.antt),
-// whose number `row_location` tells: nothing is lent to be written, so a refusal writes nothing.
-pub fn row_bytes<'a>(site: &'a [u8], house: &'a [u8], chute: u64) -> &'a [u8]
-    ensures { λ r. ⌜ RowBytes (site .entry) (house .entry) chute r ⌝ }
-{
-    let location = row_location(site, house, chute);
-    row_part(site, house, location)
 }

@@ -3,43 +3,39 @@ use libc::STDIN_FILENO;
 use libc::STDOUT_FILENO;
 
 // One byte more than a plan may have tells a plan that is too long, so no input is read further.
+const READ: usize = plan_read::MAX_PLAN + 1;
+
+// A function that promises nothing of the array: what a check costs grows with the length of an array whose elements it knows.
+fn room() -> [u8; READ] {
+    [0u8; READ]
+}
+
 fn main() {
-    let mut buffer = [0u8; 65537];
+    let mut buffer = room();
     let n = io::read_full(STDIN_FILENO, &mut buffer);
     report(&buffer[..n]);
 }
 
-fn decimal(n: u32) {
+// A word and a number after it, to the end of a line.
+fn line(word: &[u8], n: u32) {
+    io::write_all(STDOUT_FILENO, word);
     io::print_decimal(STDOUT_FILENO, n as u64);
-}
-
-fn refused_line(number: u8) {
-    io::write_all(STDOUT_FILENO, b"refused ");
-    decimal(number as u32);
-    io::write_all(STDOUT_FILENO, b"\n");
-}
-
-fn rows_line(rows: u32) {
-    io::write_all(STDOUT_FILENO, b"rows ");
-    decimal(rows);
     io::write_all(STDOUT_FILENO, b"\n");
 }
 
 fn row_line(chute: u32, destination: u32) {
-    decimal(chute);
-    io::write_all(STDOUT_FILENO, b" ");
-    decimal(destination);
-    io::write_all(STDOUT_FILENO, b"\n");
+    io::print_decimal(STDOUT_FILENO, chute as u64);
+    line(b" ", destination);
 }
 
 fn report(plan: &[u8]) {
     let summary = plan::read_plan(plan);
-    if summary.number != 0 {
-        refused_line(summary.number);
+    if summary.number != answers::DONE {
+        line(b"refused ", summary.number as u32);
         return;
     }
     let rows = summary.rows;
-    rows_line(rows);
+    line(b"rows ", rows);
     let mut cursor = plan_walk::start_at(plan);
     let mut chute: u32 = 0;
     while chute < rows {

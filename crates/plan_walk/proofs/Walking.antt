@@ -4,26 +4,26 @@ use mathlib.Core.List.{List}
 use Prim.Native.Nat.{ℕ, zero, suc}
 use native.Mathlib.Omega.{arith}
 use lib.ListN.{drop}
+use Rattle.answers.specs.Numbers.{done}
 use Rattle.answers.specs.Done.{ifDone}
 use Rattle.leb128.specs.Number.{Parsed, value, bad}
 use Rattle.leb128.specs.Answers.{numberAnswer}
 use Rattle.leb128.specs.declared.Number.{Number}
 use Rattle.leb128.specs.declared.Number.the-variants.{Value, Bad}
-use Rattle.plan.specs.Plan.{planNumber, rowAnswer}
+use Rattle.plan_read.specs.Plan.{planNumber, rowAnswer}
 use Rattle.plan.specs.Answers.{summaryOf}
-use Rattle.plan.specs.declared.RowRead.{RowRead}
-use Rattle.plan.specs.declared.RowRead.the-variants.{Found, NotRow}
+use Rattle.plan_read.specs.declared.RowRead.{RowRead}
+use Rattle.plan_read.specs.declared.RowRead.the-variants.{Found, NotRow}
 use Rattle.plan.specs.declared.PlanSummary.{PlanSummary}
 use Rattle.plan_walk.specs.Walk.{placeAfter, firstRow, walkStart, stay, asked, walkStep}
 use Rattle.plan_walk.specs.declared.Cursor.{Cursor}
-use Rattle.plan_walk.specs.declared.WalkAnswer.{WalkAnswer}
 
 -- the new value where the number is 0, and else the old one
-pub done-new : {A : Type 0} (n : ℕ) (new old : A) → n ≡ 0 → ifDone n new old ≡ new
+pub done-new : {A : Type 0} (n : ℕ) (new old : A) → n ≡ done → ifDone n new old ≡ new
 done-new zero new old e = refl
 done-new (suc n) new old e = let z : _≡_ {A = ℕ} 0 1 = cc in absurd (omega arith)
 
-pub refused-old : {A : Type 0} (n : ℕ) (new old : A) → (n ≡ 0 → ⊥) → ifDone n new old ≡ old
+pub refused-old : {A : Type 0} (n : ℕ) (new old : A) → (n ≡ done → ⊥) → ifDone n new old ≡ old
 refused-old zero new old h = absurd (h refl)
 refused-old (suc n) new old h = refl
 
@@ -41,12 +41,12 @@ abbrev startFor : List ℕ → PlanSummary → Cursor
 startFor s k = record { at = ifDone (k .number) (firstRow s) 0; number = k .number }
 
 module _ (s : List ℕ) (k : PlanSummary) (e : k ≡ summaryOf s) where
-  pub start-refused : (k .number ≡ 0 → ⊥) → _≡_ {A = Cursor} (record { at = 0; number = k .number }) (walkStart s)
+  pub start-refused : (k .number ≡ done → ⊥) → _≡_ {A = Cursor} (record { at = 0; number = k .number }) (walkStart s)
   unfolding walkStart
   start-refused h =
       ap (λ (at : ℕ). record { at = at; number = k .number }) (sym (refused-old (k .number) (firstRow s) 0 h)) ∙ ap (startFor s) e
 
-  pub start-done : k .number ≡ 0 → (n : ℕ) → n ≡ firstRow s → _≡_ {A = Cursor} (record { at = n; number = 0 }) (walkStart s)
+  pub start-done : k .number ≡ done → (n : ℕ) → n ≡ firstRow s → _≡_ {A = Cursor} (record { at = n; number = done }) (walkStart s)
   unfolding walkStart
   start-done z n q = rw (← e, z, q)
 
@@ -56,20 +56,20 @@ start-number s = refl
 
 -- an ask
 module _ (s : List ℕ) (c : Cursor) where
-  pub step-refused : (c .number ≡ 0 → ⊥) → stay (c .number) c ≡ walkStep s c
+  pub step-refused : (c .number ≡ done → ⊥) → stay (c .number) c ≡ walkStep s c
   unfolding walkStep
   step-refused h = sym (refused-old (c .number) (asked c (rowAnswer (c .at) (planNumber (c .at) (drop (c .at) s)))) (stay (c .number) c) h)
 
-  pub step-from : (r : RowRead) → c .number ≡ 0 → r ≡ rowAnswer (c .at) (planNumber (c .at) (drop (c .at) s)) → asked c r ≡ walkStep s c
+  pub step-from : (r : RowRead) → c .number ≡ done → r ≡ rowAnswer (c .at) (planNumber (c .at) (drop (c .at) s)) → asked c r ≡ walkStep s c
   unfolding walkStep
   step-from r z e = ap (asked c) e ∙ sym (done-new (c .number) (asked c (rowAnswer (c .at) (planNumber (c .at) (drop (c .at) s)))) (stay (c .number) c) z)
 
   -- an ask that hands out nothing stays where it is
-  pub step-stays : (walkStep s c .number ≡ 0 → ⊥) → walkStep s c .next ≡ c
+  pub step-stays : (walkStep s c .number ≡ done → ⊥) → walkStep s c .next ≡ c
   unfolding walkStep
   step-stays = go (c .number) (rowAnswer (c .at) (planNumber (c .at) (drop (c .at) s)))
     where
-      go : (n : ℕ) (r : RowRead) → (ifDone n (asked c r) (stay (c .number) c) .number ≡ 0 → ⊥) → ifDone n (asked c r) (stay (c .number) c) .next ≡ c
+      go : (n : ℕ) (r : RowRead) → (ifDone n (asked c r) (stay (c .number) c) .number ≡ done → ⊥) → ifDone n (asked c r) (stay (c .number) c) .next ≡ c
       go zero (Found row) h = absurd (h refl)
       go zero (NotRow place) h = refl
       go (suc n) r h = refl

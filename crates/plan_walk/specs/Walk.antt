@@ -5,10 +5,10 @@ use lib.ListN.{drop}
 use Rattle.answers.specs.Numbers.{done, noSuchChute}
 use Rattle.answers.specs.Done.{ifDone}
 use Rattle.leb128.specs.Number.{Parsed, value, bad}
-use Rattle.plan.specs.Plan.{planNumber, rowAnswer}
+use Rattle.plan_read.specs.Plan.{planNumber, rowAnswer}
 use Rattle.plan.specs.Answers.{summaryOf}
-use Rattle.plan.specs.declared.RowRead.{RowRead}
-use Rattle.plan.specs.declared.RowRead.the-variants.{Found, NotRow}
+use Rattle.plan_read.specs.declared.RowRead.{RowRead}
+use Rattle.plan_read.specs.declared.RowRead.the-variants.{Found, NotRow}
 use Rattle.plan_walk.specs.declared.Cursor.{Cursor}
 use Rattle.plan_walk.specs.declared.WalkAnswer.{WalkAnswer}
 

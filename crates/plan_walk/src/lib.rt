@@ -1,21 +1,14 @@
-// The walker (docs/RULES.md, 'Chute plan'): keeps a lent plan and its place in it, and hands out the rows' destinations one after another.
+// A walk over a plan's rows (docs/RULES.md, 'Chute plan', the walker): where it starts, and an ask at a place, with the plan lent to each.
 use leb128::Number;
-use plan::RowRead;
+use plan_read::RowRead;
 ghost use mathlib.Core.Path.{_≡_};
 ghost use Rattle.plan_walk.specs.Walk.{firstRow, stay, walkStart, walkStep};
-ghost use Rattle.plan_walk.specs.Walker.{walkerAt, asks, moved};
 
 // Where a walk stands: the place of the next row, and the plan's refusal, with which the place is 0.
 #[repr(C)]
 pub struct Cursor {
     pub at: usize,
     pub number: u8,
-}
-
-// The lent plan, and where the walk over it stands.
-pub struct Walker<'a> {
-    pub plan: &'a [u8],
-    pub cursor: Cursor,
 }
 
 // The answer to an ask, and where the walk stands after it.
@@ -39,7 +32,7 @@ fn stays(number: u8, cursor: Cursor) -> WalkAnswer
 fn first_row(plan: &[u8]) -> usize
     ensures { λ r. ⌜ r ≡ firstRow (now (plan .entry)) ⌝ }
 {
-    match leb128::number_at(plan, 0, plan::PADDED) {
+    match leb128::number_at(plan, 0, plan_read::PADDED) {
         Number::Value { value: _, next } => next,
         Number::Bad(_) => 0,
     }
@@ -70,7 +63,7 @@ pub fn step_at(plan: &[u8], cursor: Cursor) -> WalkAnswer
         return stays(cursor.number, cursor);
     }
     let at = cursor.at;
-    let read = plan::row_at(plan, at);
+    let read = plan_read::row_at(plan, at);
     let RowRead::Found(row) = read else {
         return stays(answers::NO_SUCH_CHUTE, cursor);
     };
@@ -82,21 +75,4 @@ pub fn step_at(plan: &[u8], cursor: Cursor) -> WalkAnswer
             number: answers::DONE,
         },
     }
-}
-
-// A walker at the first row of a plan.
-pub fn new<'a>(plan: &'a [u8]) -> Walker<'a>
-    ensures { λ r. ⌜ r ≡ walkerAt (plan .entry) (walkStart (now (plan .entry))) ⌝ }
-{
-    let cursor = start_at(plan);
-    Walker { plan, cursor }
-}
-
-// An ask: the next row's destination, and the walker stands past that row.
-pub fn next<'s, 'a>(w: &'s mut Walker<'a>) -> WalkAnswer
-    ensures { λ r. ⌜ (r ≡ asks (now (w .entry))) × (now (w .exit) ≡ moved (now (w .entry)) (r .next)) ⌝ }
-{
-    let answer = step_at(w.plan, w.cursor);
-    w.cursor = answer.next;
-    answer
 }

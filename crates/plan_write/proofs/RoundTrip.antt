@@ -1,5 +1,5 @@
 -- Reading what was written gives the rows: the plan's bytes read as the rows, whose lookups are the list's.
-use mathlib.Core.Path.{_≡_, refl, sym, ap, _∙_}
+use mathlib.Core.Path.{_≡_, refl, _∙_}
 use mathlib.Core.List.{List, [], _∷_}
 use mathlib.Core.Bool.{Bool, true, false, cond, _&&_}
 use Prim.Native.Nat.{ℕ, zero, suc, _≤_, _<_}
@@ -7,17 +7,20 @@ use native.Mathlib.Omega.{arith}
 use lib.ListN.{length, getD}
 use lib.Dec.{ltb, leb, eqb}
 use borrow.Author.Tests.{ltb-true, ltb-false, leb-true, le-leb, eq-eqb}
-use Rattle.leb128.specs.Written.{writtenNumber}
-use Rattle.plan.specs.Limits.{maxRows, maxDestination}
-use Rattle.plan.specs.Plan.{rows, planOf}
+use Rattle.answers.specs.Numbers.{done, malformedPlan, noSuchChute}
+use Rattle.leb128_write.specs.Written.{writtenNumber}
+use Rattle.plan_read.specs.Limits.{maxRows, maxDestination}
+use Rattle.plan_read.specs.Plan.{rows, planOf}
 use Rattle.plan.specs.Answers.{lookupOf, noDestination}
-use Rattle.plan.specs.Laws.Lookup.{lookup-row, lookup-zero, lookup-past, count-rows}
-use Rattle.plan.specs.declared.Row.{Row}
+use Rattle.plan.specs.Laws.{lookup-row, lookup-zero, lookup-past, count-rows}
+use Rattle.plan_read.specs.declared.Row.{Row}
 use Rattle.plan.specs.declared.Lookup.{Lookup}
-use Rattle.plan_write.specs.Write.{writtenPlan, rowsAllowed, allowed, lengthIs, noLength, lengthOf, fills, writeRefusal, writtenOf}
+use Rattle.plan_length.specs.Length.{writtenPlan, rowsAllowed, allowed, lengthIs, noLength, lengthOf}
+use Rattle.plan_length.specs.Laws.{and-left, and-right}
+use Rattle.plan_length.specs.declared.PlanLength.{PlanLength}
+use Rattle.plan_write.specs.Write.{fills, writeRefusal, writtenOf}
 use Rattle.plan_write.specs.RoundTrip.{lookupIn, ReadsAs, EachFits, RoundTrip}
-use Rattle.plan_write.specs.WriteLaws.{and-left, and-right, placed, placed-length, placed-row, plan-back}
-use Rattle.plan_write.specs.declared.PlanLength.{PlanLength}
+use Rattle.plan_write.specs.WriteLaws.{placed, placed-length, placed-row, plan-back}
 
 -- rows that keep the rules: their plan answers as they do
 module _ (l : List ℕ) (ok : allowed l ≡ true) where
@@ -37,7 +40,7 @@ module _ (l : List ℕ) (ok : allowed l ≡ true) where
   every (suc c) = go (ltb c (length l)) refl
     where
       go : (t : Bool) → ltb c (length l) ≡ t
-          → lookupOf (writtenPlan l) (suc c) ≡ cond {A = Lookup} t (record { number = 0; destination = getD l c 0 }) (noDestination 10)
+          → lookupOf (writtenPlan l) (suc c) ≡ cond {A = Lookup} t (record { number = done; destination = getD l c 0 }) (noDestination noSuchChute)
       go true e =
           let h : c < length l = ltb-true _ _ e in
           let g : c < length d = omega (arith, same-length) in
@@ -49,21 +52,21 @@ module _ (l : List ℕ) (ok : allowed l ≡ true) where
   reads-as : ReadsAs l (writtenPlan l)
   reads-as = record { count = count-rows (writtenPlan l) d plan-rows ∙ rw same-length; every-chute = every }
 
-written-reads : (l out : List ℕ) → writeRefusal l (length out) ≡ 0 → ReadsAs l (writtenOf l out)
+written-reads : (l out : List ℕ) → writeRefusal l (length out) ≡ done → ReadsAs l (writtenOf l out)
 unfolding writeRefusal writtenOf fills
 written-reads l out e = go (allowed l) (eqb (length (writtenPlan l)) (length out)) refl e
   where
-    go : (a b : Bool) → allowed l ≡ a → _≡_ {A = ℕ} (cond (a && b) 0 9) 0 → ReadsAs l (cond (a && b) (writtenPlan l) out)
+    go : (a b : Bool) → allowed l ≡ a → cond (a && b) done malformedPlan ≡ done → ReadsAs l (cond (a && b) (writtenPlan l) out)
     go true true ok q = reads-as l ok
     go true false ok q = absurd (omega arith)
     go false b ok q = absurd (omega arith)
 
-accepted : (l : List ℕ) → lengthOf l .number ≡ 0 → writeRefusal l (lengthOf l .length) ≡ 0
+accepted : (l : List ℕ) → lengthOf l .number ≡ done → writeRefusal l (lengthOf l .length) ≡ done
 unfolding lengthOf writeRefusal fills
 accepted l = go (allowed l)
   where
-    go : (a : Bool) → cond {A = PlanLength} a (lengthIs (length (writtenPlan l))) noLength .number ≡ 0
-        → _≡_ {A = ℕ} (cond (a && eqb (length (writtenPlan l)) (cond {A = PlanLength} a (lengthIs (length (writtenPlan l))) noLength .length)) 0 9) 0
+    go : (a : Bool) → cond {A = PlanLength} a (lengthIs (length (writtenPlan l))) noLength .number ≡ done
+        → cond (a && eqb (length (writtenPlan l)) (cond {A = PlanLength} a (lengthIs (length (writtenPlan l))) noLength .length)) done malformedPlan ≡ done
     go true e = rw (eq-eqb (length (writtenPlan l)) (length (writtenPlan l)) refl)
     go false e = absurd (omega arith)
 
@@ -72,7 +75,7 @@ unfolding rowsAllowed
 rows-allowed [] h = refl
 rows-allowed (v ∷ l) h = rw (le-leb v maxDestination (h .0)) (rows-allowed l (h .1))
 
-accepts : (l : List ℕ) → length l ≤ maxRows → EachFits l → lengthOf l .number ≡ 0
+accepts : (l : List ℕ) → length l ≤ maxRows → EachFits l → lengthOf l .number ≡ done
 unfolding lengthOf allowed
 accepts l within h = rw (le-leb (length l) maxRows within, rows-allowed l h)
 

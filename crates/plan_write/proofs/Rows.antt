@@ -1,35 +1,21 @@
--- Laws of rows written one after another: the length so far with the rows to come, the stores of the rows to come, and which case of the
--- definitions holds.
+-- Laws of rows written one after another: the stores of the rows to come, and which case of the definitions holds.
 use mathlib.Core.Path.{_≡_, refl, sym, ap, _∙_}
 use mathlib.Core.List.{List, [], _∷_, _++_, append-nil}
 use mathlib.Core.Bool.{Bool, true, false, cond, _&&_}
-use Prim.Native.Nat.{ℕ, zero, suc, _+_, _≤_, _<_}
+use Prim.Native.Nat.{ℕ, suc, _+_, _≤_, _<_}
 use native.Mathlib.Omega.{arith}
-use native.Mathlib.Numerals.{add-one}
-use lib.ListN.{length, getD, drop, set, length-append, drop-of-length-le}
-use lib.Seq.{drop-length, sets, drop-cons, sets-eq}
+use lib.ListN.{length, getD, drop, set, drop-of-length-le}
+use lib.Seq.{drop-length, sets, sets-eq}
 use lib.Dec.{leb, eqb}
-use borrow.Author.Tests.{le-leb, lt-leb, leb-true, eq-eqb, ne-eqb}
-use Rattle.leb128.specs.Answers.{numberLength}
-use Rattle.leb128.specs.Written.{writtenNumber}
-use Rattle.leb128.specs.Laws.Writing.{groups-count}
-use Rattle.plan.specs.Limits.{maxRows, maxDestination}
-use Rattle.plan_write.specs.Write.{writtenRows, writtenPlan, rowsAllowed, allowed, lengthIs, noLength, lengthOf, fills, writeRefusal, writtenOf}
-use Rattle.plan_write.specs.Write.{WritesPlan}
-use Rattle.plan_write.specs.WriteLaws.{and-left, and-right, plan-length}
-use Rattle.plan_write.specs.declared.PlanLength.{PlanLength}
-
--- the length of a plan of which n bytes are counted and these rows are to come
-abbrev pub lengthFrom : ℕ → List ℕ → PlanLength
-lengthFrom n l = cond (rowsAllowed l) (lengthIs (n + length (writtenRows l))) noLength
-
-pub length-start : (l : List ℕ) → length l ≤ maxRows → lengthFrom (length (writtenNumber (length l))) l ≡ lengthOf l
-unfolding lengthOf allowed
-length-start l h = rw (le-leb _ _ h, plan-length l)
-
-pub length-many : (l : List ℕ) → maxRows < length l → noLength ≡ lengthOf l
-unfolding lengthOf allowed
-length-many l h = rw (lt-leb _ _ h)
+use borrow.Author.Tests.{leb-true, eq-eqb, ne-eqb}
+use Rattle.answers.specs.Numbers.{done, malformedPlan}
+use Rattle.leb128_write.specs.Written.{writtenNumber}
+use Rattle.plan_read.specs.Limits.{maxRows, maxDestination}
+use Rattle.plan_length.specs.Length.{writtenRows, writtenPlan, rowsAllowed, allowed, lengthIs, noLength, lengthOf}
+use Rattle.plan_length.specs.Laws.{and-left, and-right}
+use Rattle.plan_length.specs.declared.PlanLength.{PlanLength}
+use Rattle.plan_length.proofs.Rows.{here, rows-length, rows-allowed}
+use Rattle.plan_write.specs.Write.{fills, writeRefusal, writtenOf, WritesPlan}
 
 -- stores one run after another
 sets-append : (l : List ℕ) (i : ℕ) (xs ys : List ℕ) → sets l i (xs ++ ys) ≡ sets (sets l i xs) (i + length xs) ys
@@ -42,30 +28,10 @@ sets-all l xs e =
     let k : 0 + length xs ≡ length l = omega arith in
     sets-eq xs l 0 h ∙ rw (k, drop-length) (append-nil xs)
 
-here : (i : ℕ) (l : List ℕ) → i < length l → drop i l ≡ getD l i 0 ∷ drop (i + 1) l
-here i l h = rw (add-one, drop-cons l i 0)
-
 module _ (i : ℕ) (l : List ℕ) (h : i < length l) where
-  rows-length : length (writtenRows (drop i l)) ≡ length (writtenNumber (getD l i 0)) + length (writtenRows (drop (i + 1) l))
-  unfolding writtenRows
-  rows-length = rw (here i l h, length-append)
-
-  rows-allowed : rowsAllowed (drop i l) ≡ (leb (getD l i 0) maxDestination && rowsAllowed (drop (i + 1) l))
-  unfolding rowsAllowed
-  rows-allowed = rw (here i l h)
-
-  pub length-more : (n : ℕ) → getD l i 0 ≤ maxDestination → lengthFrom n (drop i l) ≡ lengthFrom (n + length (writtenNumber (getD l i 0))) (drop (i + 1) l)
-  length-more n m =
-      let e : n + length (writtenRows (drop i l)) ≡ n + length (writtenNumber (getD l i 0)) + length (writtenRows (drop (i + 1) l)) = omega
-      (arith, rows-length) in
-      rw (e, rows-allowed, le-leb _ _ m)
-
-  pub length-large : (n : ℕ) → maxDestination < getD l i 0 → lengthFrom n (drop i l) ≡ noLength
-  length-large n m = rw (rows-allowed, lt-leb _ _ m)
-
   -- rows stored one after another
   pub row-room : (at n : ℕ) → at + length (writtenRows (drop i l)) ≤ n → at + length (writtenNumber (getD l i 0)) + length (writtenRows (drop (i + 1) l)) ≤ n
-  row-room at n r = omega (arith, rows-length)
+  row-room at n r = omega (arith, rows-length i l h)
 
   pub rows-sets : (out : List ℕ) (at : ℕ)
       → sets out at (writtenRows (drop i l)) ≡ sets (sets out at (writtenNumber (getD l i 0))) (at + length (writtenNumber (getD l i 0)))
@@ -75,26 +41,22 @@ module _ (i : ℕ) (l : List ℕ) (h : i < length l) where
 
   module _ (ok : rowsAllowed (drop i l) ≡ true) where
     pub first-allowed : getD l i 0 ≤ maxDestination
-    first-allowed = leb-true _ _ (and-left (leb (getD l i 0) maxDestination) (rowsAllowed (drop (i + 1) l)) (sym rows-allowed ∙ ok))
+    first-allowed = leb-true _ _ (and-left (leb (getD l i 0) maxDestination) (rowsAllowed (drop (i + 1) l)) (sym (rows-allowed i l h) ∙ ok))
 
     pub others-allowed : rowsAllowed (drop (i + 1) l) ≡ true
-    others-allowed = and-right (leb (getD l i 0) maxDestination) (rowsAllowed (drop (i + 1) l)) (sym rows-allowed ∙ ok)
-
-pub length-end : (i n : ℕ) (l : List ℕ) → length l ≤ i → lengthFrom n (drop i l) ≡ lengthIs n
-unfolding rowsAllowed writtenRows
-length-end i n l h = let e : n + 0 ≡ n = omega arith in rw (drop-of-length-le l h, e)
+    others-allowed = and-right (leb (getD l i 0) maxDestination) (rowsAllowed (drop (i + 1) l)) (sym (rows-allowed i l h) ∙ ok)
 
 pub rows-end : (i : ℕ) (l out : List ℕ) (at : ℕ) → length l ≤ i → sets out at (writtenRows (drop i l)) ≡ out
 unfolding writtenRows
 rows-end i l out at h = rw (drop-of-length-le l h)
 
 -- what an accepted length says
-module _ (l : List ℕ) (p : PlanLength) (e : p ≡ lengthOf l) (z : p .number ≡ 0) where
+module _ (l : List ℕ) (p : PlanLength) (e : p ≡ lengthOf l) (z : p .number ≡ done) where
   known-allowed : allowed l ≡ true
   unfolding lengthOf
   known-allowed = go (allowed l) (sym (ap (λ (q : PlanLength). q .number) e) ∙ z)
     where
-      go : (b : Bool) → cond {A = PlanLength} b (lengthIs (length (writtenPlan l))) noLength .number ≡ 0 → b ≡ true
+      go : (b : Bool) → cond {A = PlanLength} b (lengthIs (length (writtenPlan l))) noLength .number ≡ done → b ≡ true
       go true q = refl
       go false q = absurd (omega arith)
 
@@ -111,7 +73,7 @@ module _ (l : List ℕ) (p : PlanLength) (e : p ≡ lengthOf l) (z : p .number �
   )
 
   -- refused where the buffer has another length
-  pub other-length : (out : List ℕ) → (p .length ≡ length out → ⊥) → WritesPlan l out out 9
+  pub other-length : (out : List ℕ) → (p .length ≡ length out → ⊥) → WritesPlan l out out malformedPlan
   unfolding writeRefusal writtenOf fills
   other-length out n =
       let d : length (writtenPlan l) ≡ length out → ⊥ = λ q. n (known-length ∙ q) in
@@ -120,7 +82,7 @@ module _ (l : List ℕ) (p : PlanLength) (e : p ≡ lengthOf l) (z : p .number �
   -- else both runs of stores together are the plan
   pub all-written : (out a b : List ℕ) → p .length ≡ length out → a ≡ sets out 0 (writtenNumber (length l))
       → b ≡ sets a (length (writtenNumber (length l))) (writtenRows l)
-      → WritesPlan l out b 0
+      → WritesPlan l out b done
   unfolding writeRefusal writtenOf fills writtenPlan
   all-written out a b n ea eb =
       let m : length (writtenPlan l) ≡ length out = sym known-length ∙ n in
@@ -128,12 +90,12 @@ module _ (l : List ℕ) (p : PlanLength) (e : p ≡ lengthOf l) (z : p .number �
       let whole : sets out 0 (writtenPlan l) ≡ b = sets-append out 0 (writtenNumber (length l)) (writtenRows l) ∙ rw (k, ← ea, ← eb) in
       record { number = rw (known-allowed, eq-eqb _ _ m); buffer = rw (known-allowed, eq-eqb _ _ m) (sym whole ∙ sets-all out (writtenPlan l) m) }
 
-pub not-allowed : (l out : List ℕ) (p : PlanLength) → p ≡ lengthOf l → (p .number ≡ 0 → ⊥) → WritesPlan l out out 9
+pub not-allowed : (l out : List ℕ) (p : PlanLength) → p ≡ lengthOf l → (p .number ≡ done → ⊥) → WritesPlan l out out malformedPlan
 unfolding writeRefusal writtenOf fills lengthOf
 not-allowed l out p e n = let r = go (allowed l) (λ q. n (ap (λ (t : PlanLength). t .number) e ∙ q)) in record { number = r .0; buffer = r .1 }
   where
-    go : (b : Bool) → (cond {A = PlanLength} b (lengthIs (length (writtenPlan l))) noLength .number ≡ 0 → ⊥)
-        → (_≡_ {A = ℕ} 9 (cond (b && eqb (length (writtenPlan l)) (length out)) 0 9)) ×
+    go : (b : Bool) → (cond {A = PlanLength} b (lengthIs (length (writtenPlan l))) noLength .number ≡ done → ⊥)
+        → (malformedPlan ≡ cond (b && eqb (length (writtenPlan l)) (length out)) done malformedPlan) ×
         (out ≡ cond (b && eqb (length (writtenPlan l)) (length out)) (writtenPlan l) out)
     go true q = absurd (q refl)
     go false q = (refl, refl)

@@ -4,7 +4,7 @@ use mathlib.Core.Path.{_≡_}
 use mathlib.Core.List.{List}
 use mathlib.Core.Bool.{true}
 use lib.ListN.{length}
-use Rattle.plan_write.specs.Write.{writtenRows, rowsAllowed}
+use Rattle.plan_length.specs.Length.{writtenRows, rowsAllowed}
 
 pub record RowsRoom (l : List ℕ) (first n : ℕ) : Type 0 where
   pub small : rowsAllowed l ≡ true

@@ -6,10 +6,11 @@ use mathlib.Core.Bool.{cond}
 use lib.Dec.{ltb}
 use lib.ListN.{length, getD}
 use Rattle.answers.specs.Numbers.{done, noSuchChute}
-use Rattle.plan.specs.Limits.{maxRows, maxDestination}
+use Rattle.plan_read.specs.Limits.{maxRows, maxDestination}
 use Rattle.plan.specs.Answers.{summaryOf, lookupOf, noDestination}
 use Rattle.plan.specs.declared.Lookup.{Lookup}
-use Rattle.plan_write.specs.Write.{lengthOf, writeRefusal, writtenOf}
+use Rattle.plan_length.specs.Length.{lengthOf}
+use Rattle.plan_write.specs.Write.{writeRefusal, writtenOf}
 
 -- a chute's destination in a list of destinations: chutes count from 1
 abbrev pub lookupIn : List ℕ → ℕ → Lookup

@@ -1,26 +1,19 @@
 -- Laws of a plan written: how long it is, and that it reads as its rows.
 use mathlib.Core.Path.{_≡_, refl, ap}
 use mathlib.Core.List.{List, [], _∷_, _++_}
-use mathlib.Core.Bool.{Bool, true, false, _&&_}
-use Prim.Native.Nat.{ℕ, zero, suc, _+_, _*_, _≤_, _<_}
+use mathlib.Core.Bool.{true}
+use Prim.Native.Nat.{ℕ, zero, suc, _+_, _*_, _≤_}
 use native.Mathlib.Omega.{arith}
 use lib.ListN.{length, getD, length-append}
 use lib.Dec.{leb}
 use borrow.Author.Tests.{le-ltb, le-leb, leb-true}
-use Rattle.leb128.specs.Written.{writtenNumber}
-use Rattle.leb128.specs.Laws.Writing.{groups-count, number-read}
-use Rattle.plan.specs.Limits.{maxPlan, maxRows, maxDestination, padded}
-use Rattle.plan.specs.Plan.{rows, row, rowsFrom, planOf, noRow}
-use Rattle.plan.specs.declared.Row.{Row}
-use Rattle.plan_write.specs.Write.{writtenRows, writtenPlan, rowsAllowed}
-
-pub and-left : (a b : Bool) → (a && b) ≡ true → a ≡ true
-and-left true b e = refl
-and-left false b e = e
-
-pub and-right : (a b : Bool) → (a && b) ≡ true → b ≡ true
-and-right true b e = e
-and-right false b e = cc
+use Rattle.leb128_write.specs.Written.{writtenNumber}
+use Rattle.leb128_write.specs.Laws.{groups-count, number-read}
+use Rattle.plan_read.specs.Limits.{maxPlan, maxRows, maxDestination, padded}
+use Rattle.plan_read.specs.Plan.{rows, row, rowsFrom, planOf, noRow}
+use Rattle.plan_read.specs.declared.Row.{Row}
+use Rattle.plan_length.specs.Length.{writtenRows, writtenPlan, rowsAllowed}
+use Rattle.plan_length.specs.Laws.{and-left, and-right}
 
 -- the rows that are written, from a place on: their destinations are the list
 pub placed : ℕ → List ℕ → List Row
@@ -50,10 +43,6 @@ pub rows-short : (l : List ℕ) → length (writtenRows l) ≤ 3 * length l
 unfolding writtenRows
 rows-short [] = omega arith
 rows-short (v ∷ l) = rw length-append (omega (arith, groups-count 2 v, rows-short l))
-
-pub plan-length : (l : List ℕ) → length (writtenPlan l) ≡ length (writtenNumber (length l)) + length (writtenRows l)
-unfolding writtenPlan
-plan-length l = rw length-append
 
 pub plan-back : (l : List ℕ) → length l ≤ maxRows → rowsAllowed l ≡ true → planOf (writtenPlan l) ≡ rows (placed (length (writtenNumber (length l))) l)
 unfolding planOf writtenPlan

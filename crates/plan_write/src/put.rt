@@ -2,7 +2,7 @@
 ghost use mathlib.Core.Path.{_≡_};
 ghost use lib.ListN.{length};
 ghost use lib.Seq.{sets};
-ghost use Rattle.plan_write.specs.Write.{writtenRows};
+ghost use Rattle.plan_length.specs.Length.{writtenRows};
 ghost use Rattle.plan_write.specs.Room.{RowsRoom};
 
 // Writes rows from a place on.
@@ -13,7 +13,7 @@ pub fn put_rows(rows: &[u32], out: &mut [u8], first: usize)
     let mut at = first;
     let mut i: usize = 0;
     while i < rows.len() {
-        at = leb128::write_number(out, at, rows[i]);
+        at = leb128_write::write_number(out, at, rows[i]);
         i += 1;
     }
 }

@@ -1,10 +1,13 @@
 -- P1 to P12 (docs/RULES.md, 'Facts'), over the definitions that the contracts cite.
 use mathlib.Core.Path.{_≡_}
-use mathlib.Core.List.{[], _∷_}
+use mathlib.Core.List.{List, [], _∷_}
+use Prim.Native.Nat.{ℕ}
 use Rattle.encode.specs.Encode.{leftEncode, rightEncode, encodeString, KMAC}
-use Rattle.encode.proofs.Facts.{facts}
 use Rattle.plan.specs.Answers.{summaryOf, lookupOf, noDestination}
-use Rattle.plan.specs.Examples.{planAbove, plan-examples}
+
+-- the plan of the facts
+unfoldable pub planAbove : List ℕ
+planAbove = 0x03 ∷ 0x07 ∷ 0xAC ∷ 0x02 ∷ 0x00 ∷ []
 
 pub record TwelveFacts : Type 0 where
   pub p1 : leftEncode 0 ≡ 0x01 ∷ 0x00 ∷ []
@@ -21,20 +24,3 @@ pub record TwelveFacts : Type 0 where
   -- a plan of no rows, and a number of four groups
   pub p11 : summaryOf (0x00 ∷ []) ≡ record { number = 0; rows = 0 }
   pub p12 : summaryOf (0x01 ∷ 0x80 ∷ 0x80 ∷ 0x80 ∷ 0x00 ∷ []) ≡ record { number = 9; rows = 0 }
-
-pub twelve-facts : TwelveFacts
-twelve-facts =
-    record {
-      p1 = facts .p1;
-      p2 = facts .p2;
-      p3 = facts .p3;
-      p4 = facts .p4;
-      p5 = facts .p5;
-      p6 = facts .p6;
-      p7 = facts .p7;
-      p8 = plan-examples .p8;
-      p9 = plan-examples .p9;
-      p10 = plan-examples .p10;
-      p11 = plan-examples .p11;
-      p12 = plan-examples .p12;
-    }

@@ -1,1 +1,1 @@
-// The twelve facts (docs/RULES.md, 'Facts') under a single statement. All of it stands in specs/.
+// The twelve facts (docs/RULES.md, 'Facts') under a single statement. They stand in specs/, and their proof in proofs/.

@@ -1,6 +1,5 @@
 -- Where a group of 0 is allowed, any group is.
 -- Else what is left is the definition's own test.
-use mathlib.Core.Path.{refl}
 use Rattle.leb128.proofs.may_end.Statement.{statement}
 use Rattle.leb128.proofs.may_end.Tie as tie
 

@@ -1,10 +1,9 @@
 -- The groups read so far, put below the groups to come, make the number: each turn keeps this and leaves fewer groups that may follow.
 -- The value so far is below the unit of the next group, and the unit times what the groups to come can be is at most 2,097,152.
-use mathlib.Core.Path.{_≡_, refl, sym, ap, _∙_}
+use mathlib.Core.Path.{_≡_, sym, _∙_}
 use Prim.Native.Nat.{ℕ, _≤_, _<_, _+_, _*_, _%_}
 use native.Mathlib.Omega.{arith}
 use borrow.Author.Needs.{needs}
-use denote.Ref.{now}
 use lib.ListN.{drop}
 use Rattle.leb128.specs.Number.{groups, number, limit, maxNumber}
 use Rattle.leb128.proofs.Reading.{read-value, read-bad, above, above-none, turn-end, turn-last, turn-empty, turn-over, turn-more, unit-small}
@@ -14,7 +13,8 @@ use Rattle.leb128.proofs.number_at.Tie as tie
 
 abbrev Inv-loop : tie.InvT-loop
 Inv-loop bytes at padded low₀ unit₀ more₀ next₀ empty₀ low unit more next empty =
-    (low < unit) × ((unit * limit more ≤ maxNumber + 1) × (above low unit (groups padded empty more next (drop next bytes)) ≡ number padded at (drop at bytes)))
+    (low < unit) × ((unit * limit more ≤ maxNumber + 1)
+    × (above low unit (groups padded empty more next (drop next bytes)) ≡ number padded at (drop at bytes)))
 
 abbrev μ-loop : tie.MeasureT-loop
 μ-loop bytes at padded low₀ unit₀ more₀ next₀ empty₀ low unit more next empty = more

@@ -1,27 +1,32 @@
--- Laws of a number read, over the number of groups: what it takes of the bytes and what it leaves, that the bytes it takes are not fewer than those of the
--- number written, and that its place plays no part.
-use mathlib.Core.Path.{_≡_, refl, ap, _∙_}
+-- Laws of a number read, over the number of groups: what it takes of the bytes and what it leaves, and that its place plays no part.
+use mathlib.Core.Path.{_≡_, refl, _∙_}
 use mathlib.Core.List.{List, [], _∷_}
 use mathlib.Core.Bool.{Bool, true, false, cond, _||_}
-use Prim.Native.Nat.{ℕ, zero, suc, _+_, _*_, _-_, _/_, _%_, _≤_, _<_}
+use Prim.Native.Nat.{ℕ, zero, suc, _+_, _-_, _%_, _≤_, _<_}
 use native.Mathlib.Omega.{arith}
 use lib.ListN.{length, take, drop}
 use lib.Seq.{drop-drop}
 use lib.Dec.{ltb}
 use borrow.Author.Tests.{ltb-true}
-use Rattle.leb128.specs.Number.{Parsed, value, bad, lastGroup, nextGroup, groups, limit}
-use Rattle.leb128.specs.Written.{writtenGroups}
-use Rattle.leb128.specs.Laws.Writing.{groups-last, limit-least}
+use Rattle.leb128.specs.Number.{Parsed, value, bad, lastGroup, nextGroup, groups, limit, maxNumber}
 
--- of a number v that was read at the place `at`, up to the place n: one byte or more and none past the end, `rest` is what is left, the bytes taken read as
--- the number alone, and the number written takes no more
+pub limit-least : (more : ℕ) → 128 ≤ limit more
+unfolding limit
+limit-least zero = omega arith
+limit-least (suc more) = omega (arith, limit-least more)
+
+pub limit-three : limit 2 ≡ maxNumber + 1
+unfolding limit
+limit-three = refl
+
+-- of a number v that was read at the place `at`, up to the place n: one byte or more and none past the end, `rest` is what is left, and the bytes taken read
+-- as the number alone
 pub record UsedBytes (padded empty : Bool) (more at : ℕ) (s : List ℕ) (v n : ℕ) (rest : List ℕ) : Type 0 where
   pub some : at + 1 ≤ n
   pub few : n ≤ at + (more + 1)
   pub inside : n ≤ at + length s
   pub left : rest ≡ drop (n - at) s
   pub alone : groups padded empty more at (take (n - at) s) ≡ value v n []
-  pub fewest : at + length (writtenGroups more v) ≤ n
   pub below : v < limit more
 
 abbrev pub Used : Bool → Bool → ℕ → ℕ → List ℕ → Parsed → Type 0
@@ -46,14 +51,13 @@ module _ (padded empty : Bool) (at b : ℕ) (s : List ℕ) (more : ℕ) where
         inside = omega arith;
         left = rw k;
         alone = rw k (last-read padded empty at b [] more l e);
-        fewest = omega (arith, ap length (groups-last more b small));
         below = omega (arith, limit-least more);
       }
   last-used false e l = tt
 
   -- a group, and those after it
   next-used : (p : Parsed) → ltb b 128 ≡ false → Used padded padded more (at + 1) s p → Used padded empty (suc more) at (b ∷ s) (nextGroup (b % 128) p)
-  unfolding groups writtenGroups limit
+  unfolding groups limit
   next-used (value v n rest) e u =
       let k : n - at ≡ suc (n - (at + 1)) = omega (arith, u .some) in
       record {
@@ -62,13 +66,8 @@ module _ (padded empty : Bool) (at b : ℕ) (s : List ℕ) (more : ℕ) where
         inside = omega (arith, u .inside);
         left = rw k (u .left);
         alone = rw (k, e, u .alone);
-        fewest = fewer (b % 128 + 128 * v) (ltb (b % 128 + 128 * v) 128) (omega arith);
         below = omega (arith, u .below);
       }
-    where
-      fewer : (w : ℕ) (t : Bool) → w / 128 ≡ v → at + length (cond t (w ∷ []) ((128 + w % 128) ∷ writtenGroups more (w / 128))) ≤ n
-      fewer w true q = omega (arith, u .some)
-      fewer w false q = rw q (omega (arith, u .fewest))
   next-used (bad place) e u = tt
 
 pub groups-used : (padded empty : Bool) (more at : ℕ) (s : List ℕ) → Used padded empty more at s (groups padded empty more at s)

@@ -1,7 +1,6 @@
 -- Chute 0 fails the first test of the definition.
 -- Any other chute passes it, and what is left is the second test.
 use native.Mathlib.Omega.{arith}
-use borrow.Author.Needs.{needs}
 use borrow.Author.Tests.{le-leb, lt-leb}
 use Prim.Native.Nat.{_≤_, _<_}
 use Rattle.plan.proofs.has_chute.Statement.{statement}
@@ -10,14 +9,10 @@ use Rattle.plan.proofs.has_chute.Tie as tie
 returns : tie.Need-returns
 returns c = let h : c .before .args .chute < 1 = omega arith in rw (lt-leb _ _ h)
 
-wide-requires : tie.Need-wide-requires
-wide-requires c κs = search needs
-
 returns-2 : tie.Need-returns-2
 returns-2 c =
-    let tested = c .before in
-    let h : 1 ≤ tested .before .args .chute = omega (arith, tested .if1 .left) in
-    rw (le-leb 1 _ h, c .wide .ensures)
+    let h : 1 ≤ c .before .args .chute = omega (arith, c .if1 .left) in
+    rw (le-leb 1 _ h)
 
 pub has-chute-spec : {M : Type 1} → statement M
-has-chute-spec = tie.close (tie.spec returns wide-requires returns-2)
+has-chute-spec = tie.close (tie.spec returns returns-2)

@@ -1,6 +1,6 @@
 -- The answer is set out by the cases of what reading the plan whole finds, and each arm of the match is one of them.
 -- Which chute's row is kept plays no part: 0 keeps none.
-use mathlib.Core.Path.{_≡_, sym, ap, _∙_}
+use mathlib.Core.Path.{sym, ap, _∙_}
 use Rattle.plan.specs.Answers.{summary, summaryOf}
 use borrow.Author.Needs.{needs}
 use Rattle.plan.proofs.read_plan.Statement.{statement}

@@ -11,6 +11,9 @@ Inv-loop input zeros cases at₀ sum₀ i₀ at sum i = i ≤ cases
 abbrev μ-loop : tie.MeasureT-loop
 μ-loop input zeros cases at₀ sum₀ i₀ at sum i = cases - i
 
+many-zeros-requires : tie.Need-many-zeros-requires Inv-loop μ-loop
+many-zeros-requires c κs = search needs
+
 word-requires : tie.Need-word-requires Inv-loop μ-loop
 word-requires c κs = search needs
 
@@ -50,6 +53,7 @@ run-spec =
     (tie.spec
     Inv-loop
     μ-loop
+    many-zeros-requires
     word-requires
     loop-holds
     rest-requires

@@ -14,14 +14,23 @@ abbrev μ-loop : tie.MeasureT-loop
 read-plan-requires : tie.Need-read-plan-requires Inv-loop μ-loop
 read-plan-requires c κs = search needs
 
-refused-line-requires : tie.Need-refused-line-requires Inv-loop μ-loop
-refused-line-requires c κs = search needs
+slice-aggregate-line : tie.Need-slice-aggregate-line Inv-loop μ-loop
+slice-aggregate-line c = search needs
+
+cast-line : tie.Need-cast-line Inv-loop μ-loop
+cast-line c = search needs
+
+line-requires : tie.Need-line-requires Inv-loop μ-loop
+line-requires c κs = search needs
 
 returns : tie.Need-returns Inv-loop μ-loop
 returns c = search needs
 
-rows-line-requires : tie.Need-rows-line-requires Inv-loop μ-loop
-rows-line-requires c κs = search needs
+slice-aggregate-line-2 : tie.Need-slice-aggregate-line-2 Inv-loop μ-loop
+slice-aggregate-line-2 c = search needs
+
+line-requires-2 : tie.Need-line-requires-2 Inv-loop μ-loop
+line-requires-2 c κs = search needs
 
 start-at-requires : tie.Need-start-at-requires Inv-loop μ-loop
 start-at-requires c κs = search needs
@@ -54,9 +63,12 @@ report-spec =
     Inv-loop
     μ-loop
     read-plan-requires
-    refused-line-requires
+    slice-aggregate-line
+    cast-line
+    line-requires
     returns
-    rows-line-requires
+    slice-aggregate-line-2
+    line-requires-2
     start-at-requires
     loop-holds
     step-at-requires

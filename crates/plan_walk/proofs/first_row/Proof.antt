@@ -1,7 +1,7 @@
 -- The place is the number reader's, case by case.
 -- Each arm of the match is one of the cases.
-use mathlib.Core.Path.{_≡_, sym, ap, _∙_}
-use Rattle.plan.specs.Plan.{planNumber}
+use mathlib.Core.Path.{sym, ap, _∙_}
+use Rattle.plan_read.specs.Plan.{planNumber}
 use Rattle.plan_walk.proofs.Walking.{placePast, place-past}
 use borrow.Author.Needs.{needs}
 use Rattle.plan_walk.proofs.first_row.Statement.{statement}

@@ -1,6 +1,6 @@
 -- On a refused plan the answer is its number. Else the answer is set out by the cases of what the row reader finds.
 -- Anything but a row answers 10, and the place stays.
-use mathlib.Core.Path.{_≡_, refl, sym, ap, _∙_}
+use mathlib.Core.Path.{_≡_, sym, ap, _∙_}
 use denote.Ref.{now}
 use Rattle.plan_walk.specs.Walk.{walkStep, asked}
 use Rattle.plan_walk.proofs.Walking.{step-refused, step-from}

@@ -1,16 +1,16 @@
 -- The length asked first says whether the rows keep the rules; where they do and fill the buffer, the two runs of stores are the whole plan.
 -- Every refusal stands before the first store.
-use Prim.Native.Nat.{ℕ, _≤_, _<_, _+_, _%_}
-use mathlib.Core.Path.{_≡_, refl, sym, ap, _∙_}
+use Prim.Native.Nat.{ℕ, _≤_, _+_}
+use mathlib.Core.Path.{_≡_, ap, _∙_}
 use native.Mathlib.Omega.{arith}
 use denote.Ref.{now}
 use mathlib.Core.List.{List}
 use lib.ListN.{length}
 use lib.Seq.{sets}
-use Rattle.leb128.specs.Written.{writtenNumber}
-use Rattle.leb128.specs.Laws.Writing.{past-written, is-written}
-use Rattle.plan_write.specs.Write.{writtenRows}
-use Rattle.plan_write.specs.WriteLaws.{plan-length}
+use Rattle.leb128_write.specs.Written.{writtenNumber}
+use Rattle.leb128_write.specs.Laws.{past-written, is-written}
+use Rattle.plan_length.specs.Length.{writtenRows}
+use Rattle.plan_length.specs.Laws.{plan-length}
 use Rattle.plan_write.proofs.Rows.{known-length, known-rows, other-length, all-written, not-allowed}
 use borrow.Author.Needs.{needs}
 use Rattle.plan_write.proofs.write_plan.Statement.{statement}
@@ -45,15 +45,14 @@ count-written w =
     let l = now (a .rows) in
     let z = tested e .if1 .left in
     let few = known-rows l (p .plan-length .result) (p .plan-length .ensures) z .0 in
-    let k : length (now (a .rows)) % 4294967296 ≡ length (now (a .rows)) = omega (arith, few) in
     let all : length (writtenNumber (length (now (a .rows)))) + length (writtenRows (now (a .rows))) ≡ length (now (a .out)) =
     omega (arith, plan-length l, known-length l (p .plan-length .result) (p .plan-length .ensures) z, e .if2 .left) in
     let room : 0 + length (writtenNumber (length (now (a .rows)))) ≤ length (now (a .out)) = omega arith in
-    let past = (rw k at (w .write-number .ensures .0)) ∙ past-written 0 (length l) (omega (arith, few)) (now (a .out)) room in
+    let past = w .write-number .ensures .0 ∙ past-written 0 (length l) (omega (arith, few)) (now (a .out)) room in
     let first : w .write-number .result ≡ length (writtenNumber (length (now (a .rows)))) = omega (arith, past) in
     record {
       place = first;
-      stores = (rw k at (w .write-number .ensures .1)) ∙ is-written 0 (length l) (omega (arith, few)) (now (a .out)) room;
+      stores = w .write-number .ensures .1 ∙ is-written 0 (length l) (omega (arith, few)) (now (a .out)) room;
       room = omega arith;
     }
 
@@ -72,7 +71,9 @@ returns-2 c =
     other-length (now (start p .args .rows)) (p .plan-length .result) (p .plan-length .ensures) (e .if1 .left) (now (start p .args .out)) (c .if2 .taken)
 
 cast-write-number : tie.Need-cast-write-number
-cast-write-number c = search needs
+cast-write-number c =
+    let p = asked (tested (c .before)) in
+    omega (arith, known-rows (now (start p .args .rows)) (p .plan-length .result) (p .plan-length .ensures) (tested (c .before) .if1 .left) .0)
 
 write-number-requires : tie.Need-write-number-requires
 write-number-requires c κs = search needs

@@ -1,7 +1,7 @@
 -- A row a turn: the stores leave the length as it is.
 -- The index stays inside the rows.
 use Prim.Native.Nat.{_≤_, _-_}
-use mathlib.Core.Path.{_≡_, refl, sym, ap, _∙_}
+use mathlib.Core.Path.{_≡_}
 use lib.ListN.{length}
 use borrow.Author.Needs.{needs}
 use Rattle.plan_cases.proofs.entries.fill.Statement.{statement}

@@ -1,16 +1,16 @@
 -- The stores of the rows to come, made on what is stored so far, are the stores of all rows: each turn stores one row.
 -- The rows to come are allowed, and there is room for them, so that each is written.
 use Prim.Native.Nat.{ℕ, _≤_, _<_, _+_, _-_}
-use mathlib.Core.Path.{_≡_, refl, sym, ap, _∙_}
+use mathlib.Core.Path.{_≡_, refl, sym, _∙_}
 use mathlib.Core.Bool.{true}
 use native.Mathlib.Omega.{arith}
 use borrow.Author.Needs.{needs}
 use denote.Ref.{now}
 use lib.ListN.{length, getD, drop}
 use lib.Seq.{sets}
-use Rattle.leb128.specs.Written.{writtenNumber}
-use Rattle.leb128.specs.Laws.Writing.{past-written, is-written}
-use Rattle.plan_write.specs.Write.{writtenRows, rowsAllowed}
+use Rattle.leb128_write.specs.Written.{writtenNumber}
+use Rattle.leb128_write.specs.Laws.{past-written, is-written}
+use Rattle.plan_length.specs.Length.{writtenRows, rowsAllowed}
 use Rattle.plan_write.proofs.Rows.{row-room, rows-sets, rows-end, first-allowed, others-allowed}
 use Rattle.plan_write.proofs.put.put_rows.Statement.{statement}
 use Rattle.plan_write.proofs.put.put_rows.Tie as tie

@@ -1,0 +1,5 @@
+pub mod Written
+pub mod Answers
+pub mod Room
+pub mod Theorems
+pub mod Laws

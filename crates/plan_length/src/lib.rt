@@ -1,0 +1,42 @@
+// The length of a chute plan (docs/RULES.md, 'Chute plan'): how many bytes the plan of some rows takes, or that the rows break the plan's rules.
+ghost use mathlib.Core.Path.{_≡_};
+ghost use Rattle.plan_length.specs.Length.{noLength, lengthOf};
+
+// How many bytes a plan takes: 0 and the length, or the refusal's number.
+#[repr(C)]
+pub struct PlanLength {
+    pub length: usize,
+    pub number: u8,
+}
+
+fn no_length() -> PlanLength
+    ensures { λ r. ⌜ r ≡ noLength ⌝ }
+{
+    PlanLength {
+        number: answers::MALFORMED_PLAN,
+        length: 0,
+    }
+}
+
+// How many bytes the plan of these rows takes. A caller who writes it lends a buffer of exactly this length.
+pub fn plan_length(rows: &[u32]) -> PlanLength
+    ensures { λ r. ⌜ r ≡ lengthOf (now (rows .entry)) ⌝ }
+{
+    if (plan_read::MAX_ROWS as usize) < rows.len() {
+        return no_length();
+    }
+    let mut length = leb128_write::number_length(rows.len() as u32);
+    let mut i: usize = 0;
+    while i < rows.len() {
+        let row = leb128_write::number_length(rows[i]);
+        if row == 0 {
+            return no_length();
+        }
+        length += row;
+        i += 1;
+    }
+    PlanLength {
+        number: answers::DONE,
+        length,
+    }
+}

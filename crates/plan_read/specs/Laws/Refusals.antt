@@ -1,0 +1,42 @@
+-- A plan that is refused has a number that is not 0.
+use mathlib.Core.List.{List, [], _∷_}
+use mathlib.Core.Bool.{Bool, true, false, cond}
+use Prim.Native.Nat.{ℕ, zero, suc, _≤_}
+use native.Mathlib.Omega.{arith}
+use lib.ListN.{length}
+use lib.Dec.{ltb, leb}
+use Rattle.answers.specs.Numbers.{inputTooLong}
+use Rattle.leb128.specs.Number.{Parsed, value, bad}
+use Rattle.plan_read.specs.Limits.{maxPlan, maxRows}
+use Rattle.plan_read.specs.Plan.{Plan, rows, refused, malformed, consRow, afterNumber, planNumber, row, rowsFrom, planIn, planOf}
+use Rattle.plan_read.specs.declared.Row.{Row}
+
+abbrev pub Numbered : Plan → Type 0
+Numbered (rows l) = Unit
+Numbered (refused n place) = 1 ≤ n
+
+cons-numbered : (r : Row) (p : Plan) → Numbered p → Numbered (consRow r p)
+cons-numbered r (rows l) u = tt
+cons-numbered r (refused n place) u = u
+
+after-numbered : (p : Parsed) (go : ℕ → ℕ → List ℕ → Plan) → ((v next : ℕ) (rest : List ℕ) → Numbered (go v next rest)) → Numbered (afterNumber p go)
+after-numbered (value v next rest) go u = u v next rest
+after-numbered (bad place) go u = omega arith
+
+rows-numbered : (n at : ℕ) (s : List ℕ) → Numbered (rowsFrom n at s)
+unfolding rowsFrom
+rows-numbered zero at [] = tt
+rows-numbered zero at (b ∷ s) = omega arith
+rows-numbered (suc n) at s =
+    after-numbered (planNumber at s) _ (λ v next rest. cons-numbered (row v at next) (rowsFrom n next rest) (rows-numbered n next rest))
+
+pick-numbered : (t : Bool) (p q : Plan) → Numbered p → Numbered q → Numbered (cond t p q)
+pick-numbered true p q u w = u
+pick-numbered false p q u w = w
+
+pub plan-numbered : (s : List ℕ) → Numbered (planOf s)
+unfolding planOf
+plan-numbered s =
+    pick-numbered (ltb maxPlan (length s)) (refused inputTooLong 0) (planIn s) (omega arith)
+    (after-numbered (planNumber 0 s) _
+    (λ v next rest. pick-numbered (leb v maxRows) (rowsFrom v next rest) (malformed 0) (rows-numbered v next rest) (omega arith)))

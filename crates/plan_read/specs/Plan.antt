@@ -1,0 +1,69 @@
+-- A plan (docs/RULES.md, 'Chute plan'): the number of rows, at most 4,096, then each row's destination, then nothing more. Reading a plan of
+-- more than 65,536 bytes is refused with 5, a malformed one with 9.
+use Prim.Native.Nat.{ℕ, zero, suc}
+use mathlib.Core.List.{List, [], _∷_}
+use mathlib.Core.Bool.{cond}
+use lib.Dec.{ltb, leb}
+use lib.ListN.{length, getD}
+use Rattle.answers.specs.Numbers.{inputTooLong, malformedPlan}
+use Rattle.leb128.specs.Number.{Parsed, value, bad, number}
+use Rattle.plan_read.specs.Limits.{maxPlan, maxRows, padded}
+use Rattle.plan_read.specs.declared.Row.{Row}
+use Rattle.plan_read.specs.declared.RowRead.{RowRead}
+use Rattle.plan_read.specs.declared.RowRead.the-variants.{Found, NotRow}
+use Rattle.plan_read.specs.declared.PlanRead.{PlanRead}
+use Rattle.plan_read.specs.declared.PlanRead.the-variants.{Rows, Refused}
+
+-- a number of a plan, at a place
+abbrev pub planNumber : ℕ → List ℕ → Parsed
+planNumber at s = number padded at s
+
+abbrev pub row : ℕ → ℕ → ℕ → Row
+row d a e = record { destination = d; start = a; end = e }
+
+-- the row reader's answer at a place
+abbrev pub rowAnswer : ℕ → Parsed → RowRead
+rowAnswer at (value v next rest) = Found (row v at next)
+rowAnswer at (bad place) = NotRow place
+
+-- what a list of bytes is as a plan: its rows; or the refusal and the place at which it is malformed, 0 with refusal 5
+pub data Plan : Type 0 where
+  rows : List Row → Plan
+  refused : ℕ → ℕ → Plan
+
+abbrev pub malformed : ℕ → Plan
+malformed place = refused malformedPlan place
+
+abbrev pub consRow : Row → Plan → Plan
+consRow r (rows l) = rows (r ∷ l)
+consRow r (refused n place) = refused n place
+
+-- reading goes on after a number; a bad one ends it, and the whole plan is refused
+abbrev pub afterNumber : Parsed → (ℕ → ℕ → List ℕ → Plan) → Plan
+afterNumber (value v next rest) go = go v next rest
+afterNumber (bad place) go = malformed place
+
+-- n rows at the place `at`, and then nothing more
+unfoldable pub rowsFrom : ℕ → ℕ → List ℕ → Plan
+rowsFrom zero at [] = rows []
+rowsFrom zero at (b ∷ rest) = malformed at
+rowsFrom (suc n) at s = afterNumber (planNumber at s) (λ v next rest. consRow (row v at next) (rowsFrom n next rest))
+
+abbrev pub planIn : List ℕ → Plan
+planIn s = afterNumber (planNumber 0 s) (λ count next rest. cond (leb count maxRows) (rowsFrom count next rest) (malformed 0))
+
+unfoldable pub planOf : List ℕ → Plan
+planOf s = cond (ltb maxPlan (length s)) (refused inputTooLong 0) (planIn s)
+
+-- the row of a chute, which count from 1: all 0 where there is none
+abbrev pub noRow : Row
+noRow = row 0 0 0
+
+abbrev pub rowAt : ℕ → List Row → Row
+rowAt zero l = noRow
+rowAt (suc c) l = getD l c noRow
+
+-- the code's answer of one pass that keeps the row of a chute
+abbrev pub planAnswer : ℕ → Plan → PlanRead
+planAnswer chute (rows l) = Rows (length l) (rowAt chute l)
+planAnswer chute (refused n place) = Refused n place
