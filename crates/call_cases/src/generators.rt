@@ -3,6 +3,10 @@ use crate::case;
 use drng::Generator;
 use drng::GeneratorAnswer;
 
+fn unwritten() -> [u8; 65536] {
+    [0xaau8; 65536]
+}
+
 pub fn run(input: &[u8], from: usize, cases: usize) {
     let mut generator = drng::fresh();
     let mut at = from;
@@ -26,7 +30,7 @@ fn answered(input: &[u8], it: &[u8], generator: Generator) -> Generator {
         b'f' => drng::fresh(),
         b's' => printed(generator::seed(generator, first, case::string(input, it, case::SECOND))),
         _ => {
-            let mut out = [0xaau8; 65536];
+            let mut out = unwritten();
             into(it, letter, first, generator, &mut out)
         }
     }

@@ -9,6 +9,10 @@ struct Step {
     sum: u64,
 }
 
+fn unwritten() -> [u8; 65536] {
+    [0xa5u8; 65536]
+}
+
 pub fn run(input: &[u8], from: usize, cases: usize) {
     let mut session = session::start_cshake256(b"", b"").session;
     let mut at = from;
@@ -32,7 +36,7 @@ fn answered(input: &[u8], it: &[u8], session: Session, sum: u64) -> Step {
             sum: case::line(letter, case::string(input, it, case::FIRST), sum),
         },
         b'g' | b'G' => {
-            let mut out = [0xa5u8; 65536];
+            let mut out = unwritten();
             into(it, letter, session, sum, &mut out)
         }
         _ => stepped(called(input, it, letter, session), sum),
