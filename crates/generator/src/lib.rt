@@ -45,7 +45,7 @@ fn draw_pieces(old: [u8; KEY_BYTES], additional: &[u8], out: &mut [u8]) -> [u8; 
     let mut key = old;
     let mut i = 0;
     while i < n {
-        let end = i + pieces::next(n - i);
+        let end = i + pieces::cut(n - i);
         let next = piece(key, additional, &mut out[i..end]);
         key = next;
         i = end;

@@ -8,6 +8,7 @@ use mir.Syntax.{w64}
 use mir.Val.{Fits}
 use borrow.Author.Tests.{le-ltb}
 use lib.ListN.{length, take, drop, length-append}
+use Rattle.start.specs.Started.{mostBlocks}
 use Rattle.encode.specs.Padding.{rate}
 use Rattle.calls.specs.Limits.{maxCustomisation}
 use Rattle.calls.specs.Start.{named, startRefusal}
@@ -31,7 +32,7 @@ pub piece-message : (a : List ℕ) → a ++ (length a % 256 ∷ []) ≡ byteSuff
 piece-message a = sym (append-nil (byteSuffixed a))
 
 -- the count of a new key, over any seed and personalisation
-pub runs-fit : (b r : ℕ) (x p : List ℕ) → b ≤ 128 → r ≡ length ((x ++ p) ++ (length p % 256 ∷ [])) / rate + 1 → length x < 2 ^ 64 → length p < 2 ^ 64
+pub runs-fit : (b r : ℕ) (x p : List ℕ) → b ≤ mostBlocks → r ≡ length ((x ++ p) ++ (length p % 256 ∷ [])) / rate + 1 → length x < 2 ^ 64 → length p < 2 ^ 64
     → Fits w64 (b + r)
 runs-fit b r x p hb hr hx hp =
     let long : length ((x ++ p) ++ (length p % 256 ∷ [])) ≡ length x + length p + 1 = simp length-append in

@@ -11,7 +11,7 @@ use Rattle.calls.specs.Laws.Runs.{runs-by-lengths, length-ending}
 use Rattle.sponge.specs.Sponge.{sponge}
 use Rattle.sponge.specs.Running.{running, squeezed}
 use Rattle.start.specs.declared.Started.{Started}
-use Rattle.start.specs.Started.{Starts}
+use Rattle.start.specs.Started.{mostBlocks, Starts}
 use Rattle.start.proofs.Calls.{start-blocks, call-output}
 use Rattle.message.specs.Message.{MessageAbsorbed}
 
@@ -27,5 +27,5 @@ module _ {f : Function} (c : Call f) (s : Started) (h : Starts (startOf c) s) (o
       omega (arith, e .blocks, runs-by-lengths c, start-blocks (startOf c) s h ok, length-ending f (outputBytes c))
 
 -- a start's blocks are few enough to be added up
-pub start-bounded : {t : Start} {s : Started} → Starts t s → s .blocks ≤ 128
+pub start-bounded : {t : Start} {s : Started} → Starts t s → s .blocks ≤ mostBlocks
 start-bounded h = h .bounded

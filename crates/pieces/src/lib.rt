@@ -18,7 +18,7 @@ pub fn piece_count(bytes: usize) -> usize
 }
 
 // The bytes of the next piece, where this many are left to give.
-pub fn next(left: usize) -> usize
+pub fn cut(left: usize) -> usize
     ensures { λ r. ⌜ r ≡ cut left ⌝ }
 {
     if left < PIECE_BYTES {

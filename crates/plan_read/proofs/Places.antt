@@ -10,7 +10,7 @@ use lib.Dec.{ltb, leb}
 use Rattle.answers.specs.Numbers.{inputTooLong}
 use Rattle.leb128.specs.Number.{Parsed, value, bad}
 use Rattle.leb128.specs.Laws.Reading.{shifted, groups-shifted}
-use Rattle.plan_read.specs.Limits.{maxPlan, maxRows, padded}
+use Rattle.plan_read.specs.Limits.{maxPlan, maxRows, readsPadded}
 use Rattle.plan_read.specs.Plan.{Plan, rows, refused, malformed, consRow, afterNumber, planNumber, row, rowsFrom, planIn, planOf, noRow}
 use Rattle.plan_read.specs.Places.{RowIn, shiftedRow, shiftedPlan, RowPlaces}
 use Rattle.plan_read.specs.Laws.Rows.{plan-in}
@@ -81,7 +81,7 @@ rows-shifted : (n at k : ℕ) (s : List ℕ) → rowsFrom n (at + k) s ≡ shift
 unfolding rowsFrom
 rows-shifted zero at k [] = refl
 rows-shifted zero at k (b ∷ s) = refl
-rows-shifted (suc n) at k s = rw (groups-shifted padded true 2 at k s) (go (planNumber at s) (λ next rest. rows-shifted n next k rest))
+rows-shifted (suc n) at k s = rw (groups-shifted readsPadded true 2 at k s) (go (planNumber at s) (λ next rest. rows-shifted n next k rest))
   where
     go : (p : Parsed) → ((next : ℕ) (rest : List ℕ) → rowsFrom n (next + k) rest ≡ shiftedPlan k (rowsFrom n next rest))
         → afterNumber (shifted k p) (λ v next rest. consRow (row v (at + k) next) (rowsFrom n next rest))

@@ -14,7 +14,7 @@ use Rattle.leb128.specs.Answers.{numberAnswer}
 use Rattle.leb128.specs.Laws.Reading.{Rest, groups-rest}
 use Rattle.leb128.specs.declared.Number.{Number}
 use Rattle.leb128.specs.declared.Number.the-variants.{Value, Bad}
-use Rattle.plan_read.specs.Limits.{maxPlan, maxRows, padded}
+use Rattle.plan_read.specs.Limits.{maxPlan, maxRows, readsPadded}
 use Rattle.plan_read.specs.Plan.{planNumber, row, rowAnswer, Plan, rows, refused, malformed, consRow, afterNumber, rowsFrom, planOf, noRow}
 use Rattle.plan_read.specs.Plan.{rowAt, planAnswer}
 use Rattle.plan_read.specs.Answers.{ReadsRow}
@@ -46,7 +46,7 @@ row-known at s (bad place) r u e = let z : _≡_ {A = ℕ} 0 1 = cc in absurd (o
 
 pub row-found : (at : ℕ) (s : List ℕ) (r : Row) → rowAnswer at (planNumber at (drop at s)) ≡ Found r
     → (planNumber at (drop at s) ≡ value (r .destination) (r .end) (drop (r .end) s)) × (r ≡ row (r .destination) at (r .end))
-row-found at s r e = row-known at s (planNumber at (drop at s)) r (groups-rest padded true 2 at s) e
+row-found at s r e = row-known at s (planNumber at (drop at s)) r (groups-rest readsPadded true 2 at s) e
 
 pub row-none : (at : ℕ) (p : Parsed) (place : ℕ) → rowAnswer at p ≡ NotRow place → p ≡ bad place
 row-none at (value v n rest) place e = cc
@@ -149,4 +149,4 @@ module _ (c : ℕ) (s : List ℕ) where
 
   pub whole-after : length s ≤ maxPlan → rowsAfter (numberAnswer (planNumber 0 (drop 0 s))) ≡ planAnswer c (planOf s)
   unfolding planOf
-  whole-after h = rw (le-ltb _ _ h) (after-number (planNumber 0 s) (groups-rest padded true 2 0 s))
+  whole-after h = rw (le-ltb _ _ h) (after-number (planNumber 0 s) (groups-rest readsPadded true 2 0 s))

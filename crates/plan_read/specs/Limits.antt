@@ -15,5 +15,5 @@ abbrev pub maxDestination : ℕ
 maxDestination = maxNumber
 
 -- whether a number in more groups than it needs is read
-abbrev pub padded : Bool
-padded = true
+abbrev pub readsPadded : Bool
+readsPadded = true

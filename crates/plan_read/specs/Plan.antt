@@ -7,7 +7,7 @@ use lib.Dec.{ltb, leb}
 use lib.ListN.{length, getD}
 use Rattle.answers.specs.Numbers.{inputTooLong, malformedPlan}
 use Rattle.leb128.specs.Number.{Parsed, value, bad, number}
-use Rattle.plan_read.specs.Limits.{maxPlan, maxRows, padded}
+use Rattle.plan_read.specs.Limits.{maxPlan, maxRows, readsPadded}
 use Rattle.plan_read.specs.declared.Row.{Row}
 use Rattle.plan_read.specs.declared.RowRead.{RowRead}
 use Rattle.plan_read.specs.declared.RowRead.the-variants.{Found, NotRow}
@@ -16,7 +16,7 @@ use Rattle.plan_read.specs.declared.PlanRead.the-variants.{Rows, Refused
 
 -- a number of a plan, at a place
 abbrev pub planNumber : ℕ → List ℕ → Parsed
-planNumber at s = number padded at s
+planNumber at s = number readsPadded at s
 
 abbrev pub row : ℕ → ℕ → ℕ → Row
 row d a e = record { destination = d; start = a; end = e }

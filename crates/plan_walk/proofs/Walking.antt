@@ -15,7 +15,7 @@ use Rattle.plan.specs.Answers.{summaryOf}
 use Rattle.plan_read.specs.declared.RowRead.{RowRead}
 use Rattle.plan_read.specs.declared.RowRead.the-variants.{Found, NotRow}
 use Rattle.plan.specs.declared.PlanSummary.{PlanSummary}
-use Rattle.plan_walk.specs.Walk.{placeAfter, firstRow, walkStart, stay, asked, walkStep}
+use Rattle.plan_walk.specs.Walk.{placeAfter, firstRowPlace, walkStart, stay, asked, walkStep}
 use Rattle.plan_walk.specs.declared.Cursor.{Cursor}
 
 -- the new value where the number is 0, and else the old one
@@ -38,15 +38,15 @@ place-past (bad place) = refl
 
 -- the start, by the summary of the plan
 abbrev startFor : List ℕ → PlanSummary → Cursor
-startFor s k = record { at = ifDone (k .number) (firstRow s) 0; number = k .number }
+startFor s k = record { at = ifDone (k .number) (firstRowPlace s) 0; number = k .number }
 
 module _ (s : List ℕ) (k : PlanSummary) (e : k ≡ summaryOf s) where
   pub start-refused : (k .number ≡ done → ⊥) → _≡_ {A = Cursor} (record { at = 0; number = k .number }) (walkStart s)
   unfolding walkStart
   start-refused h =
-      ap (λ (at : ℕ). record { at = at; number = k .number }) (sym (refused-old (k .number) (firstRow s) 0 h)) ∙ ap (startFor s) e
+      ap (λ (at : ℕ). record { at = at; number = k .number }) (sym (refused-old (k .number) (firstRowPlace s) 0 h)) ∙ ap (startFor s) e
 
-  pub start-done : k .number ≡ done → (n : ℕ) → n ≡ firstRow s → _≡_ {A = Cursor} (record { at = n; number = done }) (walkStart s)
+  pub start-done : k .number ≡ done → (n : ℕ) → n ≡ firstRowPlace s → _≡_ {A = Cursor} (record { at = n; number = done }) (walkStart s)
   unfolding walkStart
   start-done z n q = rw (← e, z, q)
 

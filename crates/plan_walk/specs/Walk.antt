@@ -18,12 +18,12 @@ placeAfter (value v next rest) = next
 placeAfter (bad place) = 0
 
 -- the first row stands after the number of rows
-abbrev pub firstRow : List ℕ → ℕ
-firstRow s = placeAfter (planNumber 0 s)
+abbrev pub firstRowPlace : List ℕ → ℕ
+firstRowPlace s = placeAfter (planNumber 0 s)
 
 -- the start: at the first row; or at 0 with the plan's refusal
 unfoldable pub walkStart : List ℕ → Cursor
-walkStart s = record { at = ifDone (summaryOf s .number) (firstRow s) 0; number = summaryOf s .number }
+walkStart s = record { at = ifDone (summaryOf s .number) (firstRowPlace s) 0; number = summaryOf s .number }
 
 -- an ask that hands out nothing: the place stays
 abbrev pub stay : ℕ → Cursor → WalkAnswer

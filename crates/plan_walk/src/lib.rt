@@ -2,7 +2,7 @@
 use leb128::Number;
 use plan_read::RowRead;
 ghost use mathlib.Core.Path.{_≡_};
-ghost use Rattle.plan_walk.specs.Walk.{firstRow, stay, walkStart, walkStep};
+ghost use Rattle.plan_walk.specs.Walk.{firstRowPlace, stay, walkStart, walkStep};
 
 // Where a walk stands: the place of the next row, and the plan's refusal, with which the place is 0.
 #[repr(C)]
@@ -30,9 +30,9 @@ fn stays(number: u8, cursor: Cursor) -> WalkAnswer
 
 // The place after the number of rows, 0 where there is none.
 fn first_row(plan: &[u8]) -> usize
-    ensures { λ r. ⌜ r ≡ firstRow (now (plan .entry)) ⌝ }
+    ensures { λ r. ⌜ r ≡ firstRowPlace (now (plan .entry)) ⌝ }
 {
-    match leb128::number_at(plan, 0, plan_read::PADDED) {
+    match leb128::number_at(plan, 0, plan_read::READS_PADDED) {
         Number::Value { value: _, next } => next,
         Number::Bad(_) => 0,
     }

@@ -12,13 +12,13 @@ use Rattle.answers.specs.Numbers.{done, inputTooLong, noSuchChute}
 use Rattle.answers.specs.Done.{ifDone}
 use Rattle.leb128.specs.Number.{Parsed, value, bad, groups}
 use Rattle.leb128.specs.Laws.Reading.{Rest, groups-rest}
-use Rattle.plan_read.specs.Limits.{maxPlan, maxRows, padded}
+use Rattle.plan_read.specs.Limits.{maxPlan, maxRows, readsPadded}
 use Rattle.plan_read.specs.Plan.{Plan, rows, refused, malformed, consRow, afterNumber, planNumber, row, rowsFrom, planIn, planOf, noRow, planAnswer}
 use Rattle.plan_read.specs.Laws.Refusals.{Numbered, plan-numbered}
 use Rattle.plan.specs.Answers.{summaryOf, summary, rowFound, noChuteRow, chuteRow, chuteRowOf, destinationOf, lookupOf}
 use Rattle.plan_read.specs.declared.Row.{Row}
 use Rattle.plan.specs.declared.Lookup.{Lookup}
-use Rattle.plan_walk.specs.Walk.{placeAfter, firstRow, walkStart, stay, walkStep}
+use Rattle.plan_walk.specs.Walk.{placeAfter, firstRowPlace, walkStart, stay, walkStep}
 use Rattle.plan_walker.specs.Walker.{walkerAt, asks, moved}
 use Rattle.plan_walker.specs.Walks.{walkerOf, afterAsks, answerLookup, walkedOut, destinationsOf, WalksWhole}
 use Rattle.plan_walk.specs.declared.Cursor.{Cursor}
@@ -100,7 +100,7 @@ module _ (plan : RefT (List ℕ)) where
       go : (t : List ℕ) → drop at s ≡ t → AsksFrom at (rowsFrom zero at t)
       go [] e = asks-end at e
       go (b ∷ t) e = tt
-  asks-rows (suc n) at = go (planNumber at (drop at s)) refl (groups-rest padded true 2 at s) (λ next. asks-rows n next)
+  asks-rows (suc n) at = go (planNumber at (drop at s)) refl (groups-rest readsPadded true 2 at s) (λ next. asks-rows n next)
     where
       go : (p : Parsed) → planNumber at (drop at s) ≡ p → Rest at s p → ((next : ℕ) → AsksFrom next (rowsFrom n next (drop next s)))
           → AsksFrom at (afterNumber p (λ v next rest. consRow (row v at next) (rowsFrom n next rest)))
@@ -109,7 +109,7 @@ module _ (plan : RefT (List ℕ)) where
 
   asks-plan : AsksFrom (placeAfter (planNumber 0 s)) (planOf s)
   unfolding planOf
-  asks-plan = long (ltb maxPlan (length s)) (placeAfter (planNumber 0 s)) (planIn s) (go (planNumber 0 s) (groups-rest padded true 2 0 s))
+  asks-plan = long (ltb maxPlan (length s)) (placeAfter (planNumber 0 s)) (planIn s) (go (planNumber 0 s) (groups-rest readsPadded true 2 0 s))
     where
       long : (b : Bool) (at : ℕ) (p : Plan) → AsksFrom at p → AsksFrom at (cond b (refused inputTooLong 0) p)
       long true at p x = tt
@@ -154,13 +154,13 @@ module _ (plan : RefT (List ℕ)) where
   -- by what the plan is, the asks from its start
   module _ (k : ℕ) where
     abbrev startFor : Plan → Cursor
-    startFor p = record { at = ifDone (summary (planAnswer 0 p) .number) (firstRow s) 0; number = summary (planAnswer 0 p) .number }
+    startFor p = record { at = ifDone (summary (planAnswer 0 p) .number) (firstRowPlace s) 0; number = summary (planAnswer 0 p) .number }
 
     abbrev AnswersAs : Plan → Cursor → Type 0
     AnswersAs p c =
         (nth k (walkerAt plan c) ≡ destinationOf (chuteRow (suc k) (planAnswer (suc k) p))) × (walkedOut k (walkerAt plan c) ≡ take k (destinationsOf p))
 
-    asks-go : (p : Plan) → Numbered p → AsksFrom (firstRow s) p → AnswersAs p (startFor p)
+    asks-go : (p : Plan) → Numbered p → AsksFrom (firstRowPlace s) p → AnswersAs p (startFor p)
     asks-go (rows l) u a = let one : 1 ≤ suc k = omega arith in rw (le-leb 1 (suc k) one) (a k)
     asks-go (refused n place) u a =
         let h : n ≡ done → ⊥ = λ e. omega arith in
@@ -174,7 +174,7 @@ module _ (plan : RefT (List ℕ)) where
 
     refused-place : (summaryOf s .number ≡ done → ⊥) → afterAsks k (walkerOf plan) .cursor .at ≡ 0
     unfolding walkStart
-    refused-place h = rw (refused-asks (walkStart s) h k .0) (refused-old (summaryOf s .number) (firstRow s) 0 h)
+    refused-place h = rw (refused-asks (walkStart s) h k .0) (refused-old (summaryOf s .number) (firstRowPlace s) 0 h)
 
 pub walks : WalksWhole
 unfolding lookupOf chuteRowOf

@@ -9,7 +9,7 @@ use lib.Dec.{leb}
 use borrow.Author.Tests.{le-ltb, le-leb, leb-true}
 use Rattle.leb128_write.specs.Written.{writtenNumber}
 use Rattle.leb128_write.specs.Laws.{groups-count, number-read}
-use Rattle.plan_read.specs.Limits.{maxPlan, maxRows, maxDestination, padded}
+use Rattle.plan_read.specs.Limits.{maxPlan, maxRows, maxDestination, readsPadded}
 use Rattle.plan_read.specs.Plan.{rows, row, rowsFrom, planOf, noRow}
 use Rattle.plan_read.specs.declared.Row.{Row}
 use Rattle.plan_length.specs.Length.{writtenRows, writtenPlan, rowsAllowed}
@@ -36,7 +36,7 @@ unfolding rowsFrom writtenRows rowsAllowed placed
 rows-back at [] ok = refl
 rows-back at (v ∷ l) ok =
     let h : v ≤ maxDestination = leb-true v maxDestination (and-left (leb v maxDestination) (rowsAllowed l) ok) in
-    rw (number-read at v h padded (writtenRows l), rows-back (at + length (writtenNumber v)) l (and-right (leb v maxDestination) (rowsAllowed l) ok))
+    rw (number-read at v h readsPadded (writtenRows l), rows-back (at + length (writtenNumber v)) l (and-right (leb v maxDestination) (rowsAllowed l) ok))
 
 -- a written plan is short
 pub rows-short : (l : List ℕ) → length (writtenRows l) ≤ 3 * length l
@@ -52,4 +52,4 @@ plan-back l h ok =
     let z : 0 + n ≡ n = omega arith in
     let short : length (writtenNumber (length l) ++ writtenRows l) ≤ maxPlan =
     omega (arith, length-append (writtenNumber (length l)) (writtenRows l), groups-count 2 (length l), rows-short l) in
-    rw (le-ltb _ _ short, number-read 0 (length l) k padded (writtenRows l), z, le-leb _ _ h) (rows-back n l ok)
+    rw (le-ltb _ _ short, number-read 0 (length l) k readsPadded (writtenRows l), z, le-leb _ _ h) (rows-back n l ok)

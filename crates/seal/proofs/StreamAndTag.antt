@@ -18,7 +18,7 @@ use Rattle.sponge.specs.Sponge.{sponge}
 use Rattle.sponge.specs.Running.{Running, running, finished, squeezed, after}
 use Rattle.sponge.proofs.Absorbing.{after-in}
 use Rattle.sponge.proofs.Whole.{squeezed-take, squeezed-drop}
-use Rattle.start.specs.Started.{started, Starts}
+use Rattle.start.specs.Started.{started, mostBlocks, Starts}
 use Rattle.start.proofs.Calls.{start-blocks, call-output}
 use Rattle.aead.specs.Limits.{authenticationKeyLength, longestTag}
 use Rattle.seal_calls.specs.declared.Stream.{Stream}
@@ -55,7 +55,7 @@ ended n = refl
 
 -- ---- an accepted call
 
-module _ (K S x : List ℕ) (ok : startRefusal (keyed K S) ≡ 0) (few : started (keyed K S) .blocks ≤ 128) where
+module _ (K S x : List ℕ) (ok : startRefusal (keyed K S) ≡ 0) (few : started (keyed K S) .blocks ≤ mostBlocks) where
   own : Starts (keyed K S) (started (keyed K S))
   own = record { is = refl; bounded = few }
 

@@ -11,7 +11,7 @@ use Rattle.calls.specs.Start.{keyed}
 use Rattle.calls.specs.Count.{outputRuns}
 use Rattle.sponge.specs.Running.{running, absorbed, finished}
 use Rattle.start.specs.declared.Started.{Started}
-use Rattle.start.specs.Started.{started, Starts}
+use Rattle.start.specs.Started.{started, mostBlocks, Starts}
 use Rattle.message.specs.Message.{MessageAbsorbed}
 use Rattle.message.proofs.Calls.{start-bounded}
 use Rattle.seal_calls.specs.SealCalls.{zeroCode, xofRunning, xofRuns}
@@ -25,11 +25,11 @@ module _ (K S x b : List ℕ) (s : Started) (r : ℕ) (h : Starts (keyed K S) s)
   unfolding xofRuns
   xof-runs n o counted = λ i. h .is i .blocks + e .blocks i + counted i
 
-  pub started-bounded : started (keyed K S) .blocks ≤ 128
+  pub started-bounded : started (keyed K S) .blocks ≤ mostBlocks
   started-bounded = omega (arith, start-bounded h, ap (λ (t : Started). t .blocks) (h .is))
 
 -- the count of a tag over any ciphertext and label
-module _ (b r : ℕ) (x l : List ℕ) (few : b ≤ 128) (blocks : r ≡ length ((x ++ l) ++ zeroCode) / rate + 1) (hx : length x < 2 ^ 64)
+module _ (b r : ℕ) (x l : List ℕ) (few : b ≤ mostBlocks) (blocks : r ≡ length ((x ++ l) ++ zeroCode) / rate + 1) (hx : length x < 2 ^ 64)
     (hl : length l < 2 ^ 64) where
   long : length ((x ++ l) ++ zeroCode) ≡ length x + length l + 2
   long = simp length-append

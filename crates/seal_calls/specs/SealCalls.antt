@@ -7,7 +7,7 @@ use Rattle.encode.specs.Padding.{rate}
 use Rattle.calls.specs.Start.{keyed}
 use Rattle.calls.specs.Count.{outputRuns}
 use Rattle.sponge.specs.Running.{Running, running, absorbed, finished, squeezed, after}
-use Rattle.start.specs.Started.{started}
+use Rattle.start.specs.Started.{started, mostBlocks}
 use Rattle.aead.specs.Limits.{authenticationKeyLength}
 use Rattle.seal_calls.specs.declared.Stream.{Stream}
 
@@ -35,10 +35,10 @@ streamBegun key iv n =
 -- the answer, with a bound on the blocks of its start
 pub record Begins (key iv : List ℕ) (n : ℕ) (r : Stream) : Type 0 where
   pub is : r ≡ streamBegun key iv n
-  pub bounded : started (keyed key iv) .blocks ≤ 128
+  pub bounded : started (keyed key iv) .blocks ≤ mostBlocks
 
 -- a tag of t bytes over a ciphertext and a label, in r permutations, with the same bound
 pub record TagMade (authentication ciphertext label tag : List ℕ) (t r : ℕ) : Type 0 where
   pub is : tag ≡ squeezed t (xofRunning authentication [] (ciphertext ++ label))
   pub runs : r ≡ xofRuns authentication [] (ciphertext ++ label) t
-  pub bounded : started (keyed authentication []) .blocks ≤ 128
+  pub bounded : started (keyed authentication []) .blocks ≤ mostBlocks

@@ -23,10 +23,10 @@ abbrev μ-loop : tie.MeasureT-loop
 μ-loop additional out₀ n key₀ i₀ out key i = n - i
 
 -- the places in a turn, from the piece back to the start
-abbrev cutting : tie.After-piece Inv-loop μ-loop → tie.After-next Inv-loop μ-loop
+abbrev cutting : tie.After-piece Inv-loop μ-loop → tie.After-cut Inv-loop μ-loop
 cutting c = c .before .before
 
-abbrev turn : tie.After-next Inv-loop μ-loop → tie.At-loop Inv-loop μ-loop
+abbrev turn : tie.After-cut Inv-loop μ-loop → tie.At-loop Inv-loop μ-loop
 turn c = c .before .before
 
 abbrev start : tie.At-loop Inv-loop μ-loop → tie.Start Inv-loop μ-loop
@@ -39,13 +39,13 @@ loop-holds c =
     let z : n - 0 ≡ n = omega arith in
     (omega arith, refl, refl, ap (λ (k : ℕ). drawn (generate (a .additional .now)) k (a .old)) z)
 
-sub-next : tie.Need-sub-next Inv-loop μ-loop
-sub-next c = omega arith
+sub-cut : tie.Need-sub-cut Inv-loop μ-loop
+sub-cut c = omega arith
 
 add-end : tie.Need-add-end Inv-loop μ-loop
 add-end c =
     let n = length (start (turn c) .args .out .now) in
-    omega (arith, c .next .ensures, cut-fits (n - turn c .loop .i) .0)
+    omega (arith, c .cut .ensures, cut-fits (n - turn c .loop .i) .0)
 
 sub-piece : tie.Need-sub-piece Inv-loop μ-loop
 sub-piece c = omega arith
@@ -56,13 +56,13 @@ part-piece-start c = search needs
 part-piece-end : tie.Need-part-piece-end Inv-loop μ-loop
 part-piece-end c =
     let n = length (start (turn c) .args .out .now) in
-    omega (arith, c .next .ensures, cut-fits (n - turn c .loop .i) .0)
+    omega (arith, c .cut .ensures, cut-fits (n - turn c .loop .i) .0)
 
 loop-less : tie.Need-loop-less Inv-loop μ-loop
 loop-less c =
     let cut = cutting (c .before .before) in
     let n = length (start (turn cut) .args .out .now) in
-    omega (arith, cut .next .ensures, cut-some (n - turn cut .loop .i) (omega arith))
+    omega (arith, cut .cut .ensures, cut-some (n - turn cut .loop .i) (omega arith))
 
 loop-again : tie.Need-loop-again Inv-loop μ-loop
 loop-again c =
@@ -70,7 +70,7 @@ loop-again c =
     let at = turn (cutting made) in
     let a = start at .args in
     let k = at .loop in
-    let next = cutting made .next in
+    let next = cutting made .cut in
     let piece = made .piece in
     let additional = a .additional .now in
     let part = piece .last .1 .1 .0 in
@@ -114,7 +114,7 @@ draw-pieces-spec =
     Inv-loop
     μ-loop
     loop-holds
-    sub-next
+    sub-cut
     (λ c κs. tt)
     add-end
     sub-piece
