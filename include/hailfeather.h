@@ -26,8 +26,8 @@
  *    9  the plan is malformed; or rows to be written break the plan's rules or do not fill the lent buffer exactly
  *   10  the plan has no such chute
  * On a refusal every lent buffer is as it was before, a session or a generator is handed back as it was passed in, and a count, a destination, a length and
- * a number of rows are 0. So a return value may be put in place of the old one whatever its number is. The one exception is a session that could not
- * start: it is handed back giving, with nothing to give.
+ * a number of rows are 0. So a return value may be put in place of the old one whatever its number is. Two exceptions: a session that could not start
+ * is handed back giving, with nothing to give; and a walk that is asked past the last row keeps its place.
  *
  * Time. Of this archive, on an x86-64 processor, tests/secrets found no branch and no address that depends on a key, a text, a seed or a state, but the one
  * branch of hf_open on whether the tag matches, which it answers. Nothing of that is proved, and another compiler or processor may differ.

@@ -3,7 +3,7 @@ ghost use mathlib.Core.Path.{_≡_};
 ghost use lib.ListN.{drop};
 ghost use Rattle.answers.specs.Numbers.{malformedPlan};
 ghost use Rattle.plan_read.specs.Plan.{planNumber, rowsFrom, planOf, planAnswer};
-ghost use Rattle.plan_read.specs.Answers.{ReadsRow};
+ghost use Rattle.plan_read.specs.Answers.{rowValues, ReadsRow, ReadsPlan};
 use leb128::Number;
 
 // The limits, as specs/Limits.antt has them.
@@ -43,6 +43,16 @@ pub fn row_at(plan: &[u8], at: usize) -> RowRead
     }
 }
 
+// The place at which reading a row failed, 0 for a row.
+fn place_of(read: RowRead) -> usize
+    ensures { λ r. ⌜ r ≡ rowValues read .place ⌝ }
+{
+    match read {
+        RowRead::Found(_) => 0,
+        RowRead::NotRow(place) => place,
+    }
+}
+
 // What reading a whole plan finds: the number of rows and the row of one chute (all 0 where there is none); or the refusal's number, 5 or 9, and the place
 // at which the plan is malformed (0 with 5).
 pub enum PlanRead {
@@ -77,15 +87,14 @@ fn read_rows(plan: &[u8], first: usize, count: u32, chute: u64) -> PlanRead
     let mut at = first;
     let mut i: u32 = 0;
     while i < count {
-        match row_at(plan, at) {
-            RowRead::Found(row) => {
-                i += 1;
-                at = row.end;
-                if wide(i) == chute {
-                    found = row;
-                }
-            }
-            RowRead::NotRow(place) => return malformed(place),
+        let read = row_at(plan, at);
+        let RowRead::Found(row) = read else {
+            return malformed(place_of(read));
+        };
+        i += 1;
+        at = row.end;
+        if wide(i) == chute {
+            found = row;
         }
     }
     if at < plan.len() {
@@ -96,7 +105,7 @@ fn read_rows(plan: &[u8], first: usize, count: u32, chute: u64) -> PlanRead
 
 // Reads a plan whole, in one pass, and keeps the row of one chute.
 pub fn read_whole(plan: &[u8], chute: u64) -> PlanRead
-    ensures { λ r. ⌜ r ≡ planAnswer chute (planOf (now (plan .entry))) ⌝ }
+    ensures { λ r. ⌜ ReadsPlan chute (planOf (now (plan .entry))) r ⌝ }
 {
     if MAX_PLAN < plan.len() {
         return PlanRead::Refused {

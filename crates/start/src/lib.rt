@@ -42,7 +42,7 @@ pub fn start_named(name: &[u8], customisation: &[u8]) -> Started
     let mut lanes = [0u64; 25];
     if name.len() + customisation.len() == 0 {
         return Started {
-            number: 0,
+            number: DONE,
             lanes,
             suffix: 0x1f,
             blocks: 0,
@@ -50,7 +50,7 @@ pub fn start_named(name: &[u8], customisation: &[u8]) -> Started
     }
     let blocks = absorb_name(&mut lanes, name, customisation);
     Started {
-        number: 0,
+        number: DONE,
         lanes,
         suffix: 0x04,
         blocks,
@@ -69,7 +69,7 @@ pub fn start_keyed(key: &[u8], customisation: &[u8]) -> Started
     let name_blocks = absorb_name(&mut lanes, &KMAC, customisation);
     let key_blocks = absorb_key(&mut lanes, key);
     Started {
-        number: 0,
+        number: DONE,
         lanes,
         suffix: 0x04,
         blocks: name_blocks + key_blocks,

@@ -17,11 +17,11 @@ enum-known-number c = search needs
 
 returns : tie.Need-returns
 unfolding summaryOf
-returns c = let m = c .before in sym (ap summary (m .count .given .1)) ∙ ap summary (m .before .before .read-whole .ensures)
+returns c = let m = c .before in sym (ap summary (m .count .given .1)) ∙ ap summary (m .before .before .read-whole .ensures .answer)
 
 returns-2 : tie.Need-returns-2
 unfolding summaryOf
-returns-2 c = let m = c .before in sym (ap summary (m .number .given .1)) ∙ ap summary (m .before .before .read-whole .ensures)
+returns-2 c = let m = c .before in sym (ap summary (m .number .given .1)) ∙ ap summary (m .before .before .read-whole .ensures .answer)
 
 pub read-plan-spec : {M : Type 1} → statement M
 read-plan-spec =

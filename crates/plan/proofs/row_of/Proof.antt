@@ -13,7 +13,7 @@ start w = w .before .before
 
 answered : (w : tie.After-read-whole) → let a = start w .args in chuteRow (a .chute) (w .read-whole .result) ≡ chuteRowOf (now (a .plan)) (a .chute)
 unfolding chuteRowOf
-answered w = ap (chuteRow (start w .args .chute)) (w .read-whole .ensures)
+answered w = ap (chuteRow (start w .args .chute)) (w .read-whole .ensures .answer)
 
 -- where rows were found, the answer follows from their number and the row kept
 found : (c : tie.After-count) → let a = start (c .before .before) .args in

@@ -6,8 +6,11 @@ use native.Mathlib.Omega.{arith}
 use borrow.Author.Needs.{needs}
 use denote.Ref.{now}
 use lib.ListN.{drop}
+use Rattle.answers.specs.Numbers.{malformedPlan}
 use Rattle.plan_read.specs.Plan.{rowsFrom, planAnswer}
-use Rattle.plan_read.specs.declared.PlanRead.the-variants.{Rows}
+use Rattle.plan_read.specs.Answers.{rowValues}
+use Rattle.plan_read.specs.declared.RowRead.{RowRead}
+use Rattle.plan_read.specs.declared.PlanRead.the-variants.{Rows, Refused}
 use Rattle.plan_read.proofs.Rows.{keeping, keeping-start, keeping-new, keeping-old, keeping-bad, keeping-over, keeping-done}
 use Rattle.plan_read.proofs.read_rows.Statement.{statement}
 use Rattle.plan_read.proofs.read_rows.Tie as tie
@@ -27,8 +30,8 @@ abbrev start : tie.At-loop Inv-loop μ-loop → tie.Start Inv-loop μ-loop
 start t = t .before .before
 
 -- a turn that read a row
-abbrev read : tie.After-row Inv-loop μ-loop → tie.After-row-at Inv-loop μ-loop
-read k = k .before .before
+abbrev read : tie.After-known-told Inv-loop μ-loop → tie.After-row-at Inv-loop μ-loop
+read k = k .before .before .before
 
 loop-holds : tie.Need-loop-holds Inv-loop μ-loop
 loop-holds c =
@@ -39,11 +42,14 @@ loop-holds c =
 row-at-requires : tie.Need-row-at-requires Inv-loop μ-loop
 row-at-requires c κs = search needs
 
-enum-known-row : tie.Need-enum-known-row Inv-loop μ-loop
-enum-known-row c = search needs
+enum-known-read : tie.Need-enum-known-read Inv-loop μ-loop
+enum-known-read c = search needs
 
-enum-known-place : tie.Need-enum-known-place Inv-loop μ-loop
-enum-known-place c = search needs
+enum-told : tie.Need-enum-told Inv-loop μ-loop
+enum-told c = search needs
+
+place-of-requires : tie.Need-place-of-requires Inv-loop μ-loop
+place-of-requires c κs = search needs
 
 malformed-requires : tie.Need-malformed-requires Inv-loop μ-loop
 malformed-requires c κs = search needs
@@ -54,9 +60,10 @@ returns c =
     let r = m .before .before in
     let l = turn r .loop in
     let a = start (turn r) .args in
-    c .malformed .ensures
-    ∙ sym (keeping-bad (a .chute) (l .i) (l .at) (a .count) (l .found) (now (a .plan)) (m .place .given .0 .0) (r .before .loop-test .taken)
-    (sym (r .row-at .ensures .answer) ∙ m .place .given .1))
+    let other = m .enum-told .given in
+    c .malformed .ensures ∙ ap (Refused malformedPlan) (c .before .place-of .ensures ∙ ap (λ (q : RowRead). rowValues q .place) (other .1))
+    ∙ sym (keeping-bad (a .chute) (l .i) (l .at) (a .count) (l .found) (now (a .plan)) (other .0 .0) (r .before .loop-test .taken)
+    (sym (r .row-at .ensures .answer) ∙ other .1))
     ∙ l .inv .1
 
 add-i : tie.Need-add-i Inv-loop μ-loop
@@ -71,10 +78,10 @@ loop-less c = search needs
 loop-again : tie.Need-loop-again Inv-loop μ-loop
 loop-again c =
     let w = c .before in
-    let r = read (w .before .before) in
+    let r = read (w .before) in
     let l = turn r .loop in
     let a = start (turn r) .args in
-    let got = w .before .before .row .given in (
+    let got = w .before .before .read .given in (
       omega (arith, r .before .loop-test .taken),
       sym (keeping-new (a .chute) (l .i) (l .at) (a .count) (l .found) (now (a .plan)) (got .0 .0) (r .before .loop-test .taken)
           (sym (r .row-at .ensures .answer) ∙ got .1)
@@ -88,10 +95,10 @@ loop-less-2 c = search needs
 loop-again-2 : tie.Need-loop-again-2 Inv-loop μ-loop
 loop-again-2 c =
     let w = c .before in
-    let r = read (w .before .before) in
+    let r = read (w .before) in
     let l = turn r .loop in
     let a = start (turn r) .args in
-    let got = w .before .before .row .given in (
+    let got = w .before .before .read .given in (
       omega (arith, r .before .loop-test .taken),
       sym (keeping-old (a .chute) (l .i) (l .at) (a .count) (l .found) (now (a .plan)) (got .0 .0) (r .before .loop-test .taken)
           (sym (r .row-at .ensures .answer) ∙ got .1)
@@ -127,16 +134,17 @@ read-rows-spec =
     μ-loop
     loop-holds
     row-at-requires
-    enum-known-row
+    enum-known-read
+    enum-told
+    place-of-requires
+    malformed-requires
+    returns
     add-i
     wide-requires
     loop-less
     loop-again
     loop-less-2
     loop-again-2
-    enum-known-place
-    malformed-requires
-    returns
     malformed-requires-2
     returns-2
     returns-3)

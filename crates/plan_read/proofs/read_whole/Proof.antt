@@ -1,17 +1,27 @@
 -- A long plan is refused before it is read. Else the plan hangs on its first number, by the definition's own cases: too many rows, the rows that
 -- `read_rows` reads, or no number.
-use mathlib.Core.Path.{_≡_, sym, ap, _∙_}
-use Prim.Native.Nat.{_≤_, _<_}
+use mathlib.Core.Path.{_≡_, refl, sym, ap, _∙_}
+use Prim.Native.Nat.{ℕ, _≤_, _<_}
 use native.Mathlib.Omega.{arith}
 use denote.Ref.{now}
 use borrow.Author.Tests.{le-leb, lt-leb}
 use Rattle.leb128.specs.declared.Number.the-variants.{Value}
 use Rattle.plan_read.specs.Limits.{maxRows}
-use Rattle.plan_read.specs.Plan.{planOf, planAnswer}
+use Rattle.plan_read.specs.Plan.{Plan, rows, refused, planOf, planAnswer}
+use Rattle.plan_read.specs.Answers.{planValues, parsedPlan, ReadsPlan}
+use Rattle.plan_read.specs.declared.PlanRead.{PlanRead}
 use Rattle.plan_read.proofs.Rows.{rowsAfter, whole-long, whole-after}
 use borrow.Author.Needs.{needs}
 use Rattle.plan_read.proofs.read_whole.Statement.{statement}
 use Rattle.plan_read.proofs.read_whole.Tie as tie
+
+-- the values follow from the answer
+values-of : (chute : ℕ) (p : Plan) → planValues (planAnswer chute p) ≡ parsedPlan chute p
+values-of chute (rows l) = refl
+values-of chute (refused n place) = refl
+
+answers-as : (chute : ℕ) (p : Plan) (r : PlanRead) → r ≡ planAnswer chute p → ReadsPlan chute p r
+answers-as chute p r e = record { answer = e; values = ap planValues e ∙ values-of chute p }
 
 abbrev start : tie.After-number-at → tie.Start
 start n = n .before .before .before
@@ -32,7 +42,7 @@ known c =
     sym (ap (rowsAfter (a .chute) (now (a .plan))) (c .value .given .1)) ∙ after n
 
 returns : tie.Need-returns
-returns c = sym (whole-long _ _ (c .if1 .taken))
+returns c = answers-as _ _ _ (sym (whole-long _ _ (c .if1 .taken)))
 
 number-at-requires : tie.Need-number-at-requires
 number-at-requires c κs = search needs
@@ -47,7 +57,7 @@ returns-2 : tie.Need-returns-2
 returns-2 c =
     let m = c .before .before .before in
     let many : maxRows < m .value .given .0 .0 = omega (arith, c .before .if2 .taken) in
-    c .malformed .ensures ∙ (rw (lt-leb _ _ many)) ∙ known m
+    answers-as _ _ _ (c .malformed .ensures ∙ (rw (lt-leb _ _ many)) ∙ known m)
 
 read-rows-requires : tie.Need-read-rows-requires
 read-rows-requires c κs = search needs
@@ -62,14 +72,14 @@ returns-3 : tie.Need-returns-3
 returns-3 c =
     let m = c .before .before .before in
     let few : m .value .given .0 .0 ≤ maxRows = omega (arith, c .before .if2 .left) in
-    c .read-rows .ensures ∙ (rw (le-leb _ _ few)) ∙ known m
+    answers-as _ _ _ (c .read-rows .ensures ∙ (rw (le-leb _ _ few)) ∙ known m)
 
 returns-4 : tie.Need-returns-4
 returns-4 c =
     let m = c .before .before in
     let n = m .before .before in
     let a = start n .args in
-    c .malformed2 .ensures ∙ sym (ap (rowsAfter (a .chute) (now (a .plan))) (m .place .given .1)) ∙ after n
+    answers-as _ _ _ (c .malformed2 .ensures ∙ sym (ap (rowsAfter (a .chute) (now (a .plan))) (m .place .given .1)) ∙ after n)
 
 pub read-whole-spec : {M : Type 1} → statement M
 read-whole-spec =
