@@ -97,7 +97,7 @@ module _ (site house : List ℕ) (chute : ℕ) where
       let long : length (partOf site house (locationIn source r)) ≡ r .end - r .start = ap length e ∙ row-length p r i in
       record {
         as-long = long;
-        one-to-three = λ z. (omega (arith, i .some), omega (arith, i .few));
+        one-to-three = λ z. (omega (arith, i .some), omega (arith, i .atMostThree));
         empty = ((λ n z. omega (arith, i .some, sym long ∙ ap length n)), (λ z. absurd (z refl)));
       }
 

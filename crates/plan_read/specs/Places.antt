@@ -15,7 +15,7 @@ bytesOf r s = take (r .end - r .start) (drop (r .start) s)
 -- a row lies inside a plan, has one to three bytes, and these alone read as its destination and nothing more
 pub record RowIn (s : List ℕ) (r : Row) : Type 0 where
   pub some : r .start + 1 ≤ r .end
-  pub few : r .end ≤ r .start + 3
+  pub atMostThree : r .end ≤ r .start + 3
   pub inside : r .end ≤ length s
   pub itself : planNumber (r .start) (bytesOf r s) ≡ value (r .destination) (r .end) []
   pub small : r .destination ≤ maxDestination

@@ -55,9 +55,9 @@ ended n = refl
 
 -- ---- an accepted call
 
-module _ (K S x : List ℕ) (ok : startRefusal (keyed K S) ≡ 0) (few : started (keyed K S) .blocks ≤ mostBlocks) where
+module _ (K S x : List ℕ) (ok : startRefusal (keyed K S) ≡ 0) (short : started (keyed K S) .blocks ≤ mostBlocks) where
   own : Starts (keyed K S) (started (keyed K S))
-  own = record { is = refl; bounded = few }
+  own = record { is = refl; bounded = short }
 
   xof-output : (n : ℕ) → squeezed n (xofRunning K S x) ≡ sponge (fed (kmacxof256 K x n S)) n
   unfolding xofRunning

@@ -29,7 +29,7 @@ module _ (K S x b : List ℕ) (s : Started) (r : ℕ) (h : Starts (keyed K S) s)
   started-bounded = omega (arith, start-bounded h, ap (λ (t : Started). t .blocks) (h .is))
 
 -- the count of a tag over any ciphertext and label
-module _ (b r : ℕ) (x l : List ℕ) (few : b ≤ mostBlocks) (blocks : r ≡ length ((x ++ l) ++ zeroCode) / rate + 1) (hx : length x < 2 ^ 64)
+module _ (b r : ℕ) (x l : List ℕ) (bounded : b ≤ mostBlocks) (blocks : r ≡ length ((x ++ l) ++ zeroCode) / rate + 1) (hx : length x < 2 ^ 64)
     (hl : length l < 2 ^ 64) where
   long : length ((x ++ l) ++ zeroCode) ≡ length x + length l + 2
   long = simp length-append

@@ -22,7 +22,7 @@ use Rattle.session_state.specs.Session.{sessionAnswer, initial, startedSession,
 use Rattle.session.specs.History.{SessionCall, sessionAfter, acceptedPieces, output}
 use Rattle.session.specs.Joined.{JoinedBytes, JoinedBytesRule}
 use Rattle.session.proofs.EmptyPiece.{Regular, stays-regular, empty-piece}
-use Rattle.session.proofs.Totals.{takes-few, gives-few}
+use Rattle.session.proofs.Totals.{takes-within, gives-within}
 use Rattle.session.proofs.Given.{sourceAfter, gives-joined}
 use Rattle.session.proofs.Numbers.{numbers-table}
 
@@ -79,6 +79,6 @@ joined-bytes s h cs =
       started = rw e;
       numbered = rw e (numbers-table cs (b .lanes) (Taking 0) 0 0 (b .suffix) (b .kmac));
       emptyPiece = rw e (empty-piece (sessionAfter b cs) (stays-regular cs b (initial-regular s)));
-      acceptable = rw e (call-accepted s X n h (omega (arith, takes-few cs b (omega arith))) (omega (arith, gives-few cs b (omega arith))));
+      acceptable = rw e (call-accepted s X n h (omega (arith, takes-within cs b (omega arith))) (omega (arith, gives-within cs b (omega arith))));
       joined = λ d f. rw e (gives-joined cs b ∙ call-given s X n d ∙ sym (sponge-prefix (fed (extendableCall s X d)) n d (rw e at f)));
     }

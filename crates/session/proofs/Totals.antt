@@ -11,37 +11,37 @@ use Rattle.session_state.specs.Session.{givingSponge}
 use Rattle.session.specs.History.{SessionCall, acceptedPieces, output}
 use Rattle.session.proofs.CallCase.{tookTo, gaveTo, CallCase, refused, took, gave, by-case}
 
-abbrev TakesFew : List SessionCall → Session → Type 0
-TakesFew cs s = s .taken ≤ maxMessage → s .taken + length (acceptedPieces s cs) ≤ maxMessage
+abbrev TakesWithin : List SessionCall → Session → Type 0
+TakesWithin cs s = s .taken ≤ maxMessage → s .taken + length (acceptedPieces s cs) ≤ maxMessage
 
-takes-few-none : (s : Session) → TakesFew [] s
+takes-within-none : (s : Session) → TakesWithin [] s
 unfolding acceptedPieces
-takes-few-none s h = omega arith
+takes-within-none s h = omega arith
 
-takes-few-one : (c : SessionCall) (cs : List SessionCall) (s : Session) → CallCase s c → ((t : Session) → TakesFew cs t) → TakesFew (c ∷ cs) s
+takes-within-one : (c : SessionCall) (cs : List SessionCall) (s : Session) → CallCase s c → ((t : Session) → TakesWithin cs t) → TakesWithin (c ∷ cs) s
 unfolding acceptedPieces
-takes-few-one c cs s (refused k e) ih h = rw e (ih s h)
-takes-few-one c cs s (took {m} p ph bounded e) ih h = rw e (omega (arith, ih (tookTo s p m) bounded, length-append m (acceptedPieces (tookTo s p m) cs)))
-takes-few-one c cs s (gave {out} bounded e f) ih h = rw e (ih (gaveTo s out) h)
+takes-within-one c cs s (refused k e) ih h = rw e (ih s h)
+takes-within-one c cs s (took {m} p ph bounded e) ih h = rw e (omega (arith, ih (tookTo s p m) bounded, length-append m (acceptedPieces (tookTo s p m) cs)))
+takes-within-one c cs s (gave {out} bounded e f) ih h = rw e (ih (gaveTo s out) h)
 
-pub takes-few : (cs : List SessionCall) (s : Session) → TakesFew cs s
-takes-few = by-case TakesFew takes-few-none takes-few-one
+pub takes-within : (cs : List SessionCall) (s : Session) → TakesWithin cs s
+takes-within = by-case TakesWithin takes-within-none takes-within-one
 
-abbrev GivesFew : List SessionCall → Session → Type 0
-GivesFew cs s = s .given ≤ s .limit → s .given + length (output s cs) ≤ s .limit
+abbrev GivesWithin : List SessionCall → Session → Type 0
+GivesWithin cs s = s .given ≤ s .limit → s .given + length (output s cs) ≤ s .limit
 
-gives-few-none : (s : Session) → GivesFew [] s
+gives-within-none : (s : Session) → GivesWithin [] s
 unfolding output
-gives-few-none s h = omega arith
+gives-within-none s h = omega arith
 
-gives-few-one : (c : SessionCall) (cs : List SessionCall) (s : Session) → CallCase s c → ((t : Session) → GivesFew cs t) → GivesFew (c ∷ cs) s
+gives-within-one : (c : SessionCall) (cs : List SessionCall) (s : Session) → CallCase s c → ((t : Session) → GivesWithin cs t) → GivesWithin (c ∷ cs) s
 unfolding output
-gives-few-one c cs s (refused k e) ih h = rw e (ih s h)
-gives-few-one c cs s (took {m} p ph bounded e) ih h = rw e (ih (tookTo s p m) h)
-gives-few-one c cs s (gave {out} bounded e f) ih h =
+gives-within-one c cs s (refused k e) ih h = rw e (ih s h)
+gives-within-one c cs s (took {m} p ph bounded e) ih h = rw e (ih (tookTo s p m) h)
+gives-within-one c cs s (gave {out} bounded e f) ih h =
     let from : Running = givingSponge (s .phase) s in
     rw (e, f)
     (omega (arith, ih (gaveTo s out) bounded, length-append (squeezed (length out) from) (output (gaveTo s out) cs), length-squeezed (length out) from))
 
-pub gives-few : (cs : List SessionCall) (s : Session) → GivesFew cs s
-gives-few = by-case GivesFew gives-few-none gives-few-one
+pub gives-within : (cs : List SessionCall) (s : Session) → GivesWithin cs s
+gives-within = by-case GivesWithin gives-within-none gives-within-one

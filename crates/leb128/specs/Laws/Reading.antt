@@ -23,7 +23,7 @@ limit-three = refl
 -- as the number alone
 pub record UsedBytes (padded empty : Bool) (more at : ℕ) (s : List ℕ) (v n : ℕ) (rest : List ℕ) : Type 0 where
   pub some : at + 1 ≤ n
-  pub few : n ≤ at + (more + 1)
+  pub bounded : n ≤ at + (more + 1)
   pub inside : n ≤ at + length s
   pub left : rest ≡ drop (n - at) s
   pub alone : groups padded empty more at (take (n - at) s) ≡ value v n []
@@ -47,7 +47,7 @@ module _ (padded empty : Bool) (at b : ℕ) (s : List ℕ) (more : ℕ) where
       let k : at + 1 - at ≡ suc 0 = omega arith in
       record {
         some = omega arith;
-        few = omega arith;
+        bounded = omega arith;
         inside = omega arith;
         left = rw k;
         alone = rw k (last-read padded empty at b [] more l e);
@@ -62,7 +62,7 @@ module _ (padded empty : Bool) (at b : ℕ) (s : List ℕ) (more : ℕ) where
       let k : n - at ≡ suc (n - (at + 1)) = omega (arith, u .some) in
       record {
         some = omega (arith, u .some);
-        few = omega (arith, u .few);
+        bounded = omega (arith, u .bounded);
         inside = omega (arith, u .inside);
         left = rw k (u .left);
         alone = rw (k, e, u .alone);

@@ -59,9 +59,9 @@ number-length-requires c κs = search needs
 loop-holds : tie.Need-loop-holds Inv-loop μ-loop
 loop-holds c =
     let l = now (rows-of (c .before) .args .rows) in
-    let few : length l ≤ maxRows = omega (arith, c .before .if1 .left) in
+    let bounded : length l ≤ maxRows = omega (arith, c .before .if1 .left) in
     let e : c .number-length .result ≡ length (writtenNumber (length l)) = c .number-length .ensures ∙ length-is (length l) (omega arith) in
-    (omega arith, (omega (arith, e, groups-count 2 (length l)), rw e (length-start l few)))
+    (omega arith, (omega (arith, e, groups-count 2 (length l)), rw e (length-start l bounded)))
 
 mul-number-length : tie.Need-mul-number-length Inv-loop μ-loop
 mul-number-length c = search needs

@@ -71,8 +71,8 @@ malformed-requires-2 c κs = search needs
 returns-3 : tie.Need-returns-3
 returns-3 c =
     let m = c .before .before .before in
-    let few : m .value .given .0 .0 ≤ maxRows = omega (arith, c .before .if2 .left) in
-    answers-as _ _ _ (c .read-rows .ensures ∙ (rw (le-leb _ _ few)) ∙ known m)
+    let bounded : m .value .given .0 .0 ≤ maxRows = omega (arith, c .before .if2 .left) in
+    answers-as _ _ _ (c .read-rows .ensures ∙ (rw (le-leb _ _ bounded)) ∙ known m)
 
 returns-4 : tie.Need-returns-4
 returns-4 c =

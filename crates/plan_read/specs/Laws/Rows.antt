@@ -44,7 +44,7 @@ rows-in s (suc n) at = go (planNumber at (drop at s)) (groups-used readsPadded t
         let here : RowIn s (row v at next) =
         record {
           some = u .some;
-          few = u .few;
+          atMostThree = u .bounded;
           inside = omega (arith, u .some, u .inside, length-drop at s);
           itself = u .alone;
           small = omega (arith, u .below, limit-three);

@@ -127,11 +127,11 @@ module _ {M : Type 1} (𝓤 : URA M) (H : Heap 𝓤) (A : Atoms 𝓤) (W : Given
         split ! $ move ! (1 ∷ []) $
         -- [the result; the token; what s owns; room for _2; …; _1; …; room for _0; …]
         peeks ! S.the-row (Is S.the-row) (shows 𝓤 H A S.the-row) r (u ∷ []) (λ is.
-        let told = LL.tells S.the-type S′.the-laws r _ is in
-        let lowered = subst (λ (ws : List Val). Is S.the-row r ws) told is in
+        let shown = LL.tells S.the-type S′.the-laws r _ is in
+        let lowered = subst (λ (ws : List Val). Is S.the-row r ws) shown is in
         land ! (from ! (stop !)) (init ! 3 refl (LL.lawful S.the-type S′.the-laws 𝓤 H A W .typed r _ is .0)) $
-        rewrite ! 3 (λ (w : Val). ‵ (fat fullShare S′.mir l₂ 0 w)) (ap only told) refl $
-        rewrite ! 0 (λ (w : Val). ‵ (S.the-row .own r (w ∷ []))) (ap only told) refl $
+        rewrite ! 3 (λ (w : Val). ‵ (fat fullShare S′.mir l₂ 0 w)) (ap only shown) refl $
+        rewrite ! 0 (λ (w : Val). ‵ (S.the-row .own r (w ∷ []))) (ap only shown) refl $
         assigns ! (agg ! (and-then ! (load ! (from ! (stop !)) (look ! 5 refl)) (and-then ! (load ! (from ! (stop !)) (look ! 3 refl)) (no-more !))))
         (from ! (stop !))
         (init ! 7 refl (tt, (slice-typed .1, (LL.lawful S.the-type S′.the-laws 𝓤 H A W .typed r _ lowered .0 .1, tt)))) $

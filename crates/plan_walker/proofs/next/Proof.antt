@@ -122,12 +122,12 @@ module _ {M : Type 1} (𝓤 : URA M) (H : Heap 𝓤) (A : Atoms 𝓤) (W : Given
         heard ! (r ≡ asks h) (λ e. split ! $ move ! (1 ∷ []) $
         -- [the result; the token; what the struct owns; the struct's cell; the open borrow; obs; auth; nothing; _4; …; _3; …; _2; …; _1; …; room for _0; …]
         peeks ! S.the-row (Is S.the-row) (shows 𝓤 H A S.the-row) r (u ∷ []) (λ is.
-        let told = LL.tells S.the-type S′.the-laws r _ is in
-        let lowered = subst (λ (ws : List Val). Is S.the-row r ws) told is in
+        let shown = LL.tells S.the-type S′.the-laws r _ is in
+        let lowered = subst (λ (ws : List Val). Is S.the-row r ws) shown is in
         let is-next = LL.owed S.the-type S′.the-laws r _ is .1 .1 .0 in
         land ! (from ! (stop !)) (init ! 12 refl (LL.lawful S.the-type S′.the-laws 𝓤 H A W .typed r _ is .0)) $ rewrite ! 12
-        (λ (w : Val). ‵ (fat fullShare S′.mir l₂ 0 w)) (ap only told) refl $
-        rewrite ! 0 (λ (w : Val). ‵ (S.the-row .own r (w ∷ []))) (ap only told) refl $
+        (λ (w : Val). ‵ (fat fullShare S′.mir l₂ 0 w)) (ap only shown) refl $
+        rewrite ! 0 (λ (w : Val). ‵ (S.the-row .own r (w ∷ []))) (ap only shown) refl $
         assigns ! (of-opd ! (load ! (from ! (fld ! refl (stop !))) (look-in ! 12 (sub ! 2 refl (whole !)))))
         (from ! (hop ! (look ! 14 refl) (fld ! refl (stop !))))
         (store-in ! 3 (sub ! 1 refl (whole !)) (LL.lawful P.the-type P′.the-laws 𝓤 H A W .typed (r .next) _ is-next .0)) $

@@ -44,15 +44,15 @@ count-written w =
     let a = start p .args in
     let l = now (a .rows) in
     let z = tested e .if1 .left in
-    let few = known-rows l (p .plan-length .result) (p .plan-length .ensures) z .0 in
+    let bounded = known-rows l (p .plan-length .result) (p .plan-length .ensures) z .0 in
     let all : length (writtenNumber (length (now (a .rows)))) + length (writtenRows (now (a .rows))) ≡ length (now (a .out)) =
     omega (arith, plan-length l, known-length l (p .plan-length .result) (p .plan-length .ensures) z, e .if2 .left) in
     let room : 0 + length (writtenNumber (length (now (a .rows)))) ≤ length (now (a .out)) = omega arith in
-    let past = w .write-number .ensures .0 ∙ past-written 0 (length l) (omega (arith, few)) (now (a .out)) room in
+    let past = w .write-number .ensures .0 ∙ past-written 0 (length l) (omega (arith, bounded)) (now (a .out)) room in
     let first : w .write-number .result ≡ length (writtenNumber (length (now (a .rows)))) = omega (arith, past) in
     record {
       place = first;
-      stores = w .write-number .ensures .1 ∙ is-written 0 (length l) (omega (arith, few)) (now (a .out)) room;
+      stores = w .write-number .ensures .1 ∙ is-written 0 (length l) (omega (arith, bounded)) (now (a .out)) room;
       room = omega arith;
     }
 
