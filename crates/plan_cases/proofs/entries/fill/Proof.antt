@@ -13,6 +13,10 @@ Inv-loop rows₀ bytes i₀ rows i = (i ≤ length rows₀) × (length rows ≡ 
 abbrev μ-loop : tie.MeasureT-loop
 μ-loop rows₀ bytes i₀ rows i = length rows₀ - i
 
+-- the store at i lies inside the rows, whose length no store changes
+slice-write-rows : tie.Need-slice-write-rows Inv-loop μ-loop
+slice-write-rows c = search needs
+
 pub fill-spec : {M : Type 1} → statement M
 fill-spec =
     tie.close
@@ -24,7 +28,7 @@ fill-spec =
     (λ c κs. search needs)
     (λ c κs. search needs)
     (λ c. search needs)
-    (λ c. search needs)
+    slice-write-rows
     (λ c. search needs)
     (λ c. search needs)
     (λ c. search needs)
