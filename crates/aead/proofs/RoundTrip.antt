@@ -7,6 +7,7 @@ use Prim.Native.Nat.{ℕ, zero, suc, _+_, _≤_}
 use native.Mathlib.Omega.{arith}
 use lib.ListN.{length, take, drop, length-drop}
 use lib.Seq.{length-take-le}
+use Rattle.answers.specs.Laws.{firstOf-passed}
 use Rattle.answers.specs.Numbers.{done, tagMismatch}
 use Rattle.answers.specs.Done.{ifDone, firstOf, outcomeOf}
 use Rattle.calls.specs.Start.{sameBytes}
@@ -32,10 +33,6 @@ seals-within-limits c a n t =
     (lengths-accepted (c .leastSealed) k i x l n t, λ w. lengths-within (c .leastSealed) k i x l n t (c .leastSealed) t w (w .leastTag) (w .longTag))
 
 -- ---- opening is done exactly for the tag that is worked out afresh
-
-first-passed : (k later : ℕ) → firstOf k later ≡ 0 → (k ≡ 0) × (later ≡ 0)
-first-passed zero later e = (refl, e)
-first-passed (suc k) later e = absurd (omega arith)
 
 passed : (b : Bool) → cond b done tagMismatch ≡ 0 → b ≡ true
 passed true e = refl
@@ -69,7 +66,7 @@ module _ (c : Construction) (a : SealArguments) (n : ℕ) (tag : List ℕ) where
   fresh : openRefusal c a n tag ≡ 0 → (openLengthsRefusal c a n (length tag) ≡ 0) × (tag ≡ expected)
   unfolding openRefusal
   fresh e =
-      let r = first-passed (openLengthsRefusal c a n (length tag)) _ e in
+      let r = firstOf-passed (openLengthsRefusal c a n (length tag)) _ e in
       (r .0, sameBytes-equal tag expected (passed (sameBytes tag expected) (r .1)))
 
 pub accepts-exactly : (c : Construction) → AcceptsExactly c
