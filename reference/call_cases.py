@@ -15,14 +15,14 @@ import session_cases
 MODULUS = 2**32 - 5
 SECTIONS = (hash_cases, seal_cases, session_cases, generator_cases)
 STDIN = Path(__file__).resolve().parent.parent / "crates/call_cases/stdin"
-BLOCK = 393_216  # the program's buffer
+BLOCK = 458_752  # the program's buffer
 
 
 class Block:
-    """The cases of some families, and the bytes of their strings, which may be shared."""
+    """The cases of a family, and the bytes of their strings, which may be shared."""
 
-    def __init__(self, families, strings):
-        self.cases, self.strings = {family: [] for family in families}, strings
+    def __init__(self, strings):
+        self.cases, self.strings = [], strings
         self.data, self.places = bytearray(), {}
 
     def place(self, string):
@@ -45,10 +45,11 @@ class Block:
         return letter.encode() + in_words(words)
 
     def made(self):
-        every = [case for cases in self.cases.values() for case in cases]
-        counts = in_words(len(cases) for cases in self.cases.values())
-        base = len(counts) + sum(len(self.words(case, 0)) for case in every)
-        return counts + b"".join(self.words(case, base) for case in every) + bytes(self.data)
+        count = in_words((len(self.cases),))
+        base = len(count) + sum(len(self.words(case, 0)) for case in self.cases)
+        made = count + b"".join(self.words(case, base) for case in self.cases) + bytes(self.data)
+        assert len(made) <= BLOCK
+        return made
 
 
 def in_words(numbers):
@@ -59,16 +60,15 @@ class Cases:
     """The cases of the three families, each with what it writes: calls that keep no state, sessions, and the generator."""
 
     def __init__(self):
-        self.blocks = (Block(("single",), 4), Block(("session", "generator"), 2))
-        self.output = {family: [] for block in self.blocks for family in block.cases}
+        self.blocks = {"single": Block(4), "session": Block(2), "generator": Block(2)}
+        self.output = {family: [] for family in self.blocks}
         self.total = 0
 
     def put(self, family, letter, out=0, tag=0, strings=(), behind=b""):
         """A case: its letter, two words, and its strings, the last of which has `behind` after it."""
-        (block,) = (block for block in self.blocks if family in block.cases)
-        last = len(strings) - 1
+        block, last = self.blocks[family], len(strings) - 1
         placed = [(block.place(string + behind if i == last else string), len(string)) for i, string in enumerate(strings)]
-        block.cases[family].append((letter, out, tag, placed))
+        block.cases.append((letter, out, tag, placed))
 
     def write(self, family, line):
         self.output[family].append(line + "\n")
@@ -96,9 +96,8 @@ class Cases:
         self.write(family, f"{number} {runs} {output.hex()}")
 
     def input(self):
-        first, second = (block.made() for block in self.blocks)
-        assert max(len(first), len(second)) <= BLOCK
-        return first + bytes(BLOCK - len(first)) + second
+        *filled, last = (block.made() for block in self.blocks.values())
+        return b"".join(block + bytes(BLOCK - len(block)) for block in filled) + last
 
 
 def main(arguments):

@@ -5,10 +5,11 @@ after the long one the checksum of the lent buffer.
 """
 
 from generator import Generator, draw, seed
+from hash_cases import pattern
 
-BUFFER = 65_536
+BUFFER = 524_288
 SHORT = b"\x77" * 85
-LONG = bytes(65_537)
+LONG = pattern(3, 7, 65_537)
 
 
 class Run:
@@ -66,7 +67,7 @@ def edges(run):
     run.seed("seed of 65,537", LONG, b"")
     run.seed("seed of 65,537, personalisation of 85", LONG, SHORT)
     run.draw("after the refusals", b"", 32)
-    run.draw("65,500 bytes", b"night shift", 65_500, long=True)
+    run.draw("500,000 bytes", b"night shift", 500_000, long=True)
 
 
 def add(cases):

@@ -1,6 +1,7 @@
 """Cases of sealing and opening: the edges of each length, mixed lengths, every bit flipped, and cut tags.
 
-What is opened is what this reference sealed. The checksum goes over number and count and over both whole buffers, which hold A5 where a call writes nothing.
+A sealing is opened again, from what it left in its buffers; a damaged or cut one is this reference's. The checksum goes over numbers and counts and over the
+whole buffers, which hold A5 where a call writes nothing.
 """
 
 from hash_cases import pattern
@@ -38,14 +39,6 @@ EDGES = (
 KEY, IV, TEXT, LABEL = pattern(1, 5, 33), pattern(2, 3, 4097), pattern(3, 7, 300), pattern(4, 9, 300)
 
 
-def sealed(cases, key, iv, text, label, out, tag):
-    """A sealing; what its two buffers then hold."""
-    cases.put("single", "l", out, tag, (key, iv, text, label))
-    number, runs, ciphertext, new_tag = seal(key, iv, text, label, out, tag)
-    cases.add((number, runs, *buffer(BUFFER, ciphertext), *buffer(TAG_BUFFER, new_tag)))
-    return buffer(BUFFER, ciphertext), buffer(TAG_BUFFER, new_tag)
-
-
 def opened(cases, key, iv, ciphertext, label, out, tag, shown=False):
     """An opening; its tag stands behind the label."""
     cases.put("single", "O" if shown else "o", out, len(tag), (key, iv, ciphertext, label), behind=tag)
@@ -53,7 +46,7 @@ def opened(cases, key, iv, ciphertext, label, out, tag, shown=False):
     if shown:
         cases.answer("single", number, runs, b"\xa5" * out if number else text)
     else:
-        cases.add((number, runs, *buffer(BUFFER, text), *buffer(TAG_BUFFER, None)))
+        cases.add((number, runs, *buffer(BUFFER, text)))
     return number, runs
 
 
@@ -65,9 +58,13 @@ def buffer(size, written):
 
 def seal_and_open(cases, key, iv, text, label, out, tag):
     """Seals with these lengths, and opens what is then in the buffers with the same."""
-    strings = (KEY[:key], IV[:iv], TEXT[:text], LABEL[:label])
-    ciphertexts, tags = sealed(cases, *strings, out, tag)
-    return opened(cases, KEY[:key], IV[:iv], ciphertexts[:text], LABEL[:label], out, tags[:tag])
+    key, iv, text, label = KEY[:key], IV[:iv], TEXT[:text], LABEL[:label]
+    cases.put("single", "l", out, tag, (key, iv, text, label))
+    number, runs, ciphertext, new_tag = seal(key, iv, text, label, out, tag)
+    ciphertexts, tags = buffer(BUFFER, ciphertext), buffer(TAG_BUFFER, new_tag)
+    cases.add((number, runs, *ciphertexts, *tags))
+    number, runs, back = open_sealed(key, iv, ciphertexts[: len(text)], label, tags[:tag], out)
+    cases.add((number, runs, *buffer(BUFFER, back)))
 
 
 def edges(cases):

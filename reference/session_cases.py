@@ -14,7 +14,7 @@ MESSAGE = pattern(3, 7, 409)
 OUTPUT = 300
 SIZES = (1, 2, 3, 7, 67, 135, 136, 137, 271, 272, 273, 408, 409)
 LONG = bytes(4097)
-PART = 65536
+PART = b"\x5a" * 65536
 
 
 class Run:
@@ -62,14 +62,12 @@ def in_two(cases, start):
 
 
 def in_parts(cases, start, size):
-    """In pieces and portions of this size, from a block's half on each after an empty one."""
-    run, empties = Run(cases).start(*start), size >= 67
+    """In pieces and portions of this size, each after an empty one."""
+    run = Run(cases).start(*start)
     for at in range(0, len(MESSAGE), size):
-        run = run.take(b"") if empties else run
-        run.take(MESSAGE[at : at + size])
+        run.take(b"").take(MESSAGE[at : at + size])
     for at in range(0, OUTPUT, size):
-        run = run.give(0) if empties else run
-        run.give(min(size, OUTPUT - at))
+        run.give(0).give(min(size, OUTPUT - at))
     cases.end("session")
 
 
@@ -106,16 +104,17 @@ def limits(cases):
     """The totals in 256 parts, and one byte more."""
     cases.heading("session", "16777216 bytes taken, and given")
     run = Run(cases).start("n", b"", b"")
-    for _ in range(MESSAGE_LIMIT // PART):
-        run.take(bytes(PART))
+    parts = MESSAGE_LIMIT // len(PART)
+    for _ in range(parts):
+        run.take(PART)
     run.take(b"x").take(b"")
     cases.put("session", "G", 32)
-    run.gave(0, hashlib.shake_256(bytes(MESSAGE_LIMIT)).digest(32), shown=True)
+    run.gave(0, hashlib.shake_256(PART * parts).digest(32), shown=True)
     cases.end("session")
     run, given = Run(cases).start("n", b"", b""), hashlib.shake_256(b"").digest(OUTPUT_LIMIT)
-    for at in range(0, OUTPUT_LIMIT, PART):
-        cases.put("session", "g", PART)
-        run.gave(0, given[at : at + PART])
+    for at in range(0, OUTPUT_LIMIT, len(PART)):
+        cases.put("session", "g", len(PART))
+        run.gave(0, given[at : at + len(PART)])
     run.session = run.session._replace(giving=True, given=OUTPUT_LIMIT)
     run.give(1, shown=True).give(0).take(b"")
     cases.end("session")

@@ -1,5 +1,8 @@
 // The parts of a case, and what is written for it: a line, or the checksum taken on.
 
+// Where a block's cases begin.
+pub const FROM: usize = 4;
+
 // A letter, a word and two strings of two words.
 pub const SHORT: usize = 21;
 
@@ -46,11 +49,11 @@ pub fn next(from: usize, size: usize) -> usize {
 // A heading, or the checksum that is then begun anew; the checksum after it.
 pub fn line(letter: u8, text: &[u8], sum: u64) -> u64 {
     if letter == b'h' {
-        testing::print(text);
+        printing::print(text);
     } else {
-        testing::print_number(sum);
+        printing::print_number(sum);
     }
-    testing::print(b"\n");
+    printing::print(b"\n");
     0
 }
 
@@ -61,9 +64,9 @@ pub fn numbered(sum: u64, number: u8, runs: usize) -> u64 {
 
 // Number, runs and bytes, on a line.
 pub fn print(number: u8, runs: usize, bytes: &[u8]) {
-    testing::print_number(number as u64);
-    testing::print(b" ");
-    testing::print_number(runs as u64);
-    testing::print(b" ");
-    testing::print_bytes(bytes);
+    printing::print_number(number as u64);
+    printing::print(b" ");
+    printing::print_number(runs as u64);
+    printing::print(b" ");
+    printing::print_bytes(bytes);
 }

@@ -3,8 +3,8 @@ use crate::case;
 use drng::Generator;
 use drng::GeneratorAnswer;
 
-fn unwritten() -> [u8; 65536] {
-    [0xaau8; 65536]
+fn unwritten() -> [u8; 524288] {
+    [0xaau8; 524288]
 }
 
 pub fn run(input: &[u8], from: usize, cases: usize) {
@@ -57,7 +57,7 @@ fn into(
     }
     let after = printed(generator::draw(generator, additional, &mut buffer[..n]));
     if letter == b'd' {
-        testing::print_bytes(testing::first(buffer, n));
+        printing::print_bytes(testing::first(buffer, n));
     } else {
         case::line(letter, b"", testing::add_bytes(0, buffer));
     }

@@ -18,7 +18,7 @@ fn answered(input: &[u8], it: &[u8], sum: u64) -> u64 {
     let letter = testing::byte_at(it, 0);
     match letter {
         b'h' | b'e' => case::line(letter, case::string(input, it, case::FIRST), sum),
-        b'l' | b'L' | b'o' | b'O' => seals::answered(input, it, letter, sum),
+        b'l' | b'o' | b'O' => seals::answered(input, it, letter, sum),
         _ => hashes::answered(input, it, letter, sum),
     }
 }

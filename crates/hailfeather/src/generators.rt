@@ -4,15 +4,15 @@ ghost use lib.ListN.{length};
 ghost use Rattle.drng.specs.State.{freshGenerator};
 ghost use Rattle.drng.specs.Drng.{seedAnswer, drawAnswer, drawOutput};
 ghost use Rattle.generator.specs.Cshake.{cshakeDrng};
-ghost use Rattle.c_generator.specs.Generator.{importedGenerator, exportedGenerator, exportedAnswer};
-use c_generator::CGenerator;
-use c_generator::CGeneratorAnswer;
+ghost use Rattle.c_generator_state.specs.Generator.{importedGenerator, exportedGenerator, exportedAnswer};
+use c_generator_state::CGenerator;
+use c_generator_state::CGeneratorAnswer;
 
 #[no_mangle]
 pub extern "C" fn hf_generator_fresh() -> CGenerator
     ensures { λ r. ⌜ r ≡ exportedGenerator freshGenerator ⌝ }
 {
-    c_generator::fresh()
+    c_generator_state::fresh()
 }
 
 #[no_mangle]

@@ -1,8 +1,17 @@
 // The library as C links it: each function is one entry of the crates below, under a name `hf_..`, with that entry's contract. A `&[u8]` passes as a pointer
-// and a length. Nothing is done here but handing on, and telling the version.
+// and a length. Nothing is done here but handing on.
 mod hashes; // hashes.rt: the permutation and the hash functions
 mod sessions; // sessions.rt: running sessions
 mod seals; // seals.rt: sealing and opening
 mod generators; // generators.rt: the generator
 mod plans; // plans.rt: the chute plan
-mod version; // version.rt: the version of header and archive
+
+ghost use mathlib.Core.Path.{_≡_};
+ghost use Rattle.version.specs.Version.{version};
+
+#[no_mangle]
+pub extern "C" fn hf_version() -> u32
+    ensures { λ r. ⌜ r ≡ version ⌝ }
+{
+    version::version()
+}

@@ -15,7 +15,7 @@ pub fn asked<'a>(letter: u8, first: &'a [u8], second: &'a [u8], chute: u64, sum:
 
 fn of_one(letter: u8, bytes: &[u8], chute: u64) {
     match letter {
-        b'h' => testing::print(bytes),
+        b'h' => printing::print(bytes),
         b'l' => line(bytes, chute),
         b'w' => written(bytes),
         _ => walked(bytes),
@@ -23,19 +23,19 @@ fn of_one(letter: u8, bytes: &[u8], chute: u64) {
 }
 
 fn end() {
-    testing::print(b"\n");
+    printing::print(b"\n");
 }
 
 // A number and a blank.
 fn field(n: u64) {
-    testing::print_number(n);
-    testing::print(b" ");
+    printing::print_number(n);
+    printing::print(b" ");
 }
 
 // A refusal and a value.
 fn answer(number: u8, value: u64) {
-    testing::print_number(number as u64);
-    testing::print(b":");
+    printing::print_number(number as u64);
+    printing::print(b":");
     field(value);
 }
 
@@ -94,8 +94,8 @@ fn row<'a>(site: &'a [u8], house: &'a [u8], chute: u64) {
     answer(location.number, source_number(source));
     field(location.start as u64);
     field(location.length as u64);
-    testing::print_bytes(plan_part::row_bytes(site, house, chute));
-    testing::print_bytes(plan_part::row_part(site, house, location));
+    printing::print_bytes(plan_part::row_bytes(site, house, chute));
+    printing::print_bytes(plan_part::row_part(site, house, location));
 }
 
 // Rows of four bytes each: the length they take, and then the refusal and all of the buffer for that length, one byte more, one less, and none.

@@ -1,8 +1,7 @@
-// What the gate's programs share: parts of a slice and numbers in it, a checksum, and printing.
+// What the gate's programs share: parts of a slice and numbers in it, and a checksum.
 ghost use mathlib.Core.Path.{_≡_};
 ghost use lib.ListN.{take, drop, getD};
 ghost use Rattle.testing.specs.Data.{addNumber, addBytes, halfOf, wordOf};
-use libc::STDOUT_FILENO;
 
 fn wide(byte: u8) -> u64
     ensures { λ r. ⌜ r ≡ byte ⌝ }
@@ -69,22 +68,4 @@ pub fn add_bytes(sum: u64, bytes: &[u8]) -> u64
         i += 1;
     }
     all
-}
-
-// Bytes in hexadecimal, and a line feed.
-pub fn print_bytes(bytes: &[u8]) {
-    let mut i = 0;
-    while i < bytes.len() {
-        io::print_hex(STDOUT_FILENO, wide(bytes[i]), 2);
-        i += 1;
-    }
-    print(b"\n");
-}
-
-pub fn print(text: &[u8]) {
-    io::write_all(STDOUT_FILENO, text);
-}
-
-pub fn print_number(number: u64) {
-    io::print_decimal(STDOUT_FILENO, number);
 }

@@ -6,14 +6,14 @@ use borrow.Author.Needs.{needs}
 use Rattle.drng.specs.declared.Generator.{Generator}
 use Rattle.drng.specs.Drng.{seedAnswer}
 use Rattle.generator.specs.Cshake.{cshakeDrng}
-use Rattle.c_generator.specs.Generator.{exportedAnswer}
+use Rattle.c_generator_state.specs.Generator.{exportedAnswer}
 use Rattle.c_generator.proofs.seed.Statement.{statement}
 use Rattle.c_generator.proofs.seed.Tie as tie
 
 returns : tie.Need-returns
 returns c =
     let a = c .before .before .before .before .before .args in
-    c .exported-answer .ensures
+    c .exported .ensures
     ∙ ap exportedAnswer
     (c .before .seed .ensures
     ∙ ap (λ (g : Generator). seedAnswer cshakeDrng g (now (a .seed)) (now (a .personalisation))) (c .before .before .imported .ensures))

@@ -1,12 +1,11 @@
 // The version of this library, so that a header and an archive of different versions are told apart.
 ghost use mathlib.Core.Path.{_≡_};
-ghost use Rattle.hailfeather.specs.Version.{version};
+ghost use Rattle.version.specs.Version.{version};
 
 // HF_VERSION of include/hailfeather.h: 0.1.0, two digits for each part.
 const VERSION: u32 = 100;
 
-#[no_mangle]
-pub extern "C" fn hf_version() -> u32
+pub fn version() -> u32
     ensures { λ r. ⌜ r ≡ version ⌝ }
 {
     VERSION

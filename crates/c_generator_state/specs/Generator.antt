@@ -2,8 +2,8 @@
 use Rattle.drng.specs.declared.Generator.{Generator}
 use Rattle.drng.specs.declared.GeneratorAnswer.{GeneratorAnswer}
 use Rattle.c_flag.specs.Flag.{flag, isSet}
-use Rattle.c_generator.specs.declared.CGenerator.{CGenerator}
-use Rattle.c_generator.specs.declared.CGeneratorAnswer.{CGeneratorAnswer}
+use Rattle.c_generator_state.specs.declared.CGenerator.{CGenerator}
+use Rattle.c_generator_state.specs.declared.CGeneratorAnswer.{CGeneratorAnswer}
 
 abbrev pub exportedGenerator : Generator → CGenerator
 exportedGenerator g = record { key = g .key; seeded = flag (g .seeded) }

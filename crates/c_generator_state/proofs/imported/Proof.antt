@@ -1,8 +1,8 @@
 -- Field by field; the flag as its own conversion has it.
 -- The key is handed on as it stands.
 use borrow.Author.Needs.{needs}
-use Rattle.c_generator.proofs.imported.Statement.{statement}
-use Rattle.c_generator.proofs.imported.Tie as tie
+use Rattle.c_generator_state.proofs.imported.Statement.{statement}
+use Rattle.c_generator_state.proofs.imported.Tie as tie
 
 returns : tie.Need-returns
 returns c = rw (c .is-set .ensures)
