@@ -15,7 +15,8 @@ import session_cases
 MODULUS = 2**32 - 5
 SECTIONS = (hash_cases, seal_cases, session_cases, generator_cases)
 STDIN = Path(__file__).resolve().parent.parent / "crates/call_cases/stdin"
-BLOCK = 458_752  # the program's buffer
+BLOCK = 393_216  # the program's buffer
+SIZE = {2: 21, 4: 41}  # a case's bytes, by how many strings it has
 
 
 class Block:
@@ -23,31 +24,26 @@ class Block:
 
     def __init__(self, strings):
         self.cases, self.strings = [], strings
-        self.data, self.places = bytearray(), {}
 
-    def place(self, string):
-        """Where a string's bytes stand among those of all strings."""
-        if string not in self.places:
-            at = self.data.find(string)
-            if at < 0:
-                at = len(self.data)
-                self.data += string
-            self.places[string] = at
-        return self.places[string]
-
-    def words(self, case, base):
+    def words(self, case, places):
         """A word and the strings of a case; of four strings, a word more."""
         letter, out, tag, strings = case
         words = [out]
-        for place, length in strings + [(0, 0)] * (self.strings - len(strings)):
-            words += [base + place, length]
+        for held, length in strings + [(b"", 0)] * (self.strings - len(strings)):
+            words += [places[held], length]
         words += [tag] if self.strings == 4 else []
         return letter.encode() + in_words(words)
 
     def made(self):
-        count = in_words((len(self.cases),))
-        base = len(count) + sum(len(self.words(case, 0)) for case in self.cases)
-        made = count + b"".join(self.words(case, base) for case in self.cases) + bytes(self.data)
+        held = {b""} | {string for *_, strings in self.cases for string, _ in strings}
+        base = 4 + len(self.cases) * SIZE[self.strings]
+        data, places = bytearray(), {}
+        # the longest first, since shorter ones are mostly parts of them
+        for string in sorted(held, key=lambda string: (-len(string), string)):
+            if string not in data:
+                data += string
+            places[string] = base + data.find(string)
+        made = in_words((len(self.cases),)) + b"".join(self.words(case, places) for case in self.cases) + bytes(data)
         assert len(made) <= BLOCK
         return made
 
@@ -66,9 +62,9 @@ class Cases:
 
     def put(self, family, letter, out=0, tag=0, strings=(), behind=b""):
         """A case: its letter, two words, and its strings, the last of which has `behind` after it."""
-        block, last = self.blocks[family], len(strings) - 1
-        placed = [(block.place(string + behind if i == last else string), len(string)) for i, string in enumerate(strings)]
-        block.cases.append((letter, out, tag, placed))
+        last = len(strings) - 1
+        held = [(string + behind if i == last else string, len(string)) for i, string in enumerate(strings)]
+        self.blocks[family].cases.append((letter, out, tag, held))
 
     def write(self, family, line):
         self.output[family].append(line + "\n")

@@ -41,6 +41,11 @@ pub fn string<'a>(input: &'a [u8], case: &[u8], at: usize) -> &'a [u8] {
     testing::first(testing::rest(input, word(words, 0)), word(words, 4))
 }
 
+// Its length.
+pub fn length(case: &[u8], at: usize) -> usize {
+    word(testing::rest(case, at), 4)
+}
+
 // The case after one of this size.
 pub fn next(from: usize, size: usize) -> usize {
     std::num::wrapping_add_usize(from, size)

@@ -14,8 +14,8 @@ mod single; // single.rt: the calls that keep no state
 use libc::STDIN_FILENO;
 
 // A block's buffer: what it holds is asked of none, so that the check need not know it.
-fn buffer() -> [u8; 458752] {
-    [0u8; 458752]
+fn buffer() -> [u8; 393216] {
+    [0u8; 393216]
 }
 
 fn main() {

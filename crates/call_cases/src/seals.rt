@@ -9,7 +9,7 @@ pub fn answered(input: &[u8], it: &[u8], letter: u8, sum: u64) -> u64 {
     if letter == b'l' {
         let sealed = sealed_into(input, it, sum, &mut out, &mut tag);
         let mut back = [0xa5u8; 300];
-        let ciphertext = testing::first(&out, case::word(it, case::THIRD + 4));
+        let ciphertext = testing::first(&out, case::length(it, case::THIRD));
         return opened_into(
             input,
             it,
