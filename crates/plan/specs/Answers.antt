@@ -1,9 +1,10 @@
 -- The questions on one plan, and their numbers: 5 and 9 are the plan's, 10 is the chute's and comes after them. Each answer is set out by the cases of
 -- what reading finds.
-use Prim.Native.Nat.{ℕ}
+use Prim.Native.Nat.{ℕ, zero, suc}
 use mathlib.Core.List.{List}
 use mathlib.Core.Bool.{Bool, cond, _&&_}
-use lib.Dec.{leb}
+use lib.Dec.{ltb, leb}
+use lib.ListN.{length, getD}
 use Rattle.answers.specs.Numbers.{done, noSuchChute}
 use Rattle.plan_read.specs.Plan.{noRow, planOf, planAnswer}
 use Rattle.plan_read.specs.declared.Row.{Row}
@@ -48,3 +49,8 @@ noDestination n = record { number = n; destination = 0 }
 
 unfoldable pub lookupOf : List ℕ → ℕ → Lookup
 lookupOf s chute = destinationOf (chuteRowOf s chute)
+
+-- the same in a list of destinations
+abbrev pub lookupIn : List ℕ → ℕ → Lookup
+lookupIn l zero = noDestination noSuchChute
+lookupIn l (suc c) = cond (ltb c (length l)) (record { number = done; destination = getD l c 0 }) (noDestination noSuchChute)

@@ -11,7 +11,7 @@ use Rattle.answers.specs.Numbers.{done, malformedPlan, noSuchChute}
 use Rattle.leb128_write.specs.Written.{writtenNumber}
 use Rattle.plan_read.specs.Limits.{maxRows, maxDestination}
 use Rattle.plan_read.specs.Plan.{rows, planOf}
-use Rattle.plan.specs.Answers.{lookupOf, noDestination}
+use Rattle.plan.specs.Answers.{lookupOf, lookupIn, noDestination}
 use Rattle.plan.specs.Laws.{lookup-row, lookup-zero, lookup-past, count-rows}
 use Rattle.plan_read.specs.declared.Row.{Row}
 use Rattle.plan.specs.declared.Lookup.{Lookup}
@@ -19,7 +19,7 @@ use Rattle.plan_length.specs.Length.{writtenPlan, rowsAllowed, allowed, lengthI
 use Rattle.plan_length.specs.Laws.{and-left, and-right}
 use Rattle.plan_length.specs.declared.PlanLength.{PlanLength}
 use Rattle.plan_write.specs.Write.{fills, writeRefusal, writtenOf}
-use Rattle.plan_write.specs.RoundTrip.{lookupIn, ReadsAs, EachFits, RoundTrip}
+use Rattle.plan_write.specs.RoundTrip.{ReadsAs, EachFits, RoundTrip}
 use Rattle.plan_write.specs.WriteLaws.{placed, placed-length, placed-row, plan-back}
 
 -- rows that keep the rules: their plan answers as they do

@@ -1,21 +1,13 @@
 -- Reading what was written gives the rows (docs/RULES.md, 'Chute plan'), by the answers that the entries promise.
-use Prim.Native.Nat.{ℕ, zero, suc, _≤_}
+use Prim.Native.Nat.{ℕ, _≤_}
 use mathlib.Core.Path.{_≡_}
 use mathlib.Core.List.{List, [], _∷_}
-use mathlib.Core.Bool.{cond}
-use lib.Dec.{ltb}
-use lib.ListN.{length, getD}
-use Rattle.answers.specs.Numbers.{done, noSuchChute}
+use lib.ListN.{length}
+use Rattle.answers.specs.Numbers.{done}
 use Rattle.plan_read.specs.Limits.{maxRows, maxDestination}
-use Rattle.plan.specs.Answers.{summaryOf, lookupOf, noDestination}
-use Rattle.plan.specs.declared.Lookup.{Lookup}
+use Rattle.plan.specs.Answers.{summaryOf, lookupOf, lookupIn}
 use Rattle.plan_length.specs.Length.{lengthOf}
 use Rattle.plan_write.specs.Write.{writeRefusal, writtenOf}
-
--- a chute's destination in a list of destinations: chutes count from 1
-abbrev pub lookupIn : List ℕ → ℕ → Lookup
-lookupIn l zero = noDestination noSuchChute
-lookupIn l (suc c) = cond (ltb c (length l)) (record { number = done; destination = getD l c 0 }) (noDestination noSuchChute)
 
 -- bytes that answer as the rows l do, at every chute, those that they do not have too
 pub record ReadsAs (l s : List ℕ) : Type 0 where

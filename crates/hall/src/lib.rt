@@ -1,0 +1,84 @@
+// The questions on a hall plan (docs/RULES.md, 'Hall plan'): what a caller has to lend to read it, and the destination of a chute.
+use hall_read::HallRead;
+use plan::Lookup;
+ghost use mathlib.Core.Path.{_≡_};
+ghost use Rattle.plan.specs.Answers.{noDestination};
+ghost use Rattle.hall.specs.Answers.{refusedSummary, acceptedSummary, hallSummaryOf, hallLookupOf};
+
+// The answer of reading a hall plan: 0, the outermost number of entries, and how many entries and chutes there are; or the refusal's number.
+#[repr(C)]
+pub struct HallSummary {
+    pub entries: usize,
+    pub outer: u32,
+    pub chutes: u32,
+    pub number: u8,
+}
+
+// The answer on a refusal, of reading into lists too.
+pub fn refused_summary(number: u8) -> HallSummary
+    ensures { λ r. ⌜ r ≡ refusedSummary number ⌝ }
+{
+    HallSummary {
+        number,
+        outer: 0,
+        entries: 0,
+        chutes: 0,
+    }
+}
+
+fn accepted_summary(outer: u32, entries: usize, chutes: u32) -> HallSummary
+    ensures { λ r. ⌜ r ≡ acceptedSummary outer entries chutes ⌝ }
+{
+    HallSummary {
+        number: answers::DONE,
+        outer,
+        entries,
+        chutes,
+    }
+}
+
+pub fn read_halls(plan: &[u8]) -> HallSummary
+    ensures { λ r. ⌜ r ≡ hallSummaryOf (now (plan .entry)) ⌝ }
+{
+    match hall_read::read_whole(plan, 0) {
+        HallRead::Halls {
+            outer,
+            entries,
+            chutes,
+            found: _,
+        } => accepted_summary(outer, entries, chutes),
+        HallRead::Refused { number, place: _ } => refused_summary(number),
+    }
+}
+
+fn no_destination(number: u8) -> Lookup
+    ensures { λ r. ⌜ r ≡ noDestination number ⌝ }
+{
+    Lookup {
+        number,
+        destination: 0,
+    }
+}
+
+// The destination of a chute. The plan is read whole before the chute is judged.
+pub fn destination(plan: &[u8], chute: u64) -> Lookup
+    ensures { λ r. ⌜ r ≡ hallLookupOf (now (plan .entry)) chute ⌝ }
+{
+    match hall_read::read_whole(plan, chute) {
+        HallRead::Halls {
+            outer: _,
+            entries: _,
+            chutes,
+            found,
+        } => {
+            if plan::has_chute(chutes, chute) {
+                return Lookup {
+                    number: answers::DONE,
+                    destination: found,
+                };
+            }
+            no_destination(answers::NO_SUCH_CHUTE)
+        }
+        HallRead::Refused { number, place: _ } => no_destination(number),
+    }
+}

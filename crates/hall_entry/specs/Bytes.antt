@@ -1,0 +1,19 @@
+-- An entry in bytes (docs/RULES.md, 'Hall plan'): the number of its kind, judged once it is read, and then its value. A number is that of flat plans.
+use Prim.Native.Nat.{ℕ}
+use mathlib.Core.List.{List}
+use mathlib.Core.Bool.{cond}
+use Rattle.leb128.specs.Number.{Parsed, value, bad}
+use Rattle.plan_read.specs.Plan.{planNumber}
+use Rattle.hall_entry.specs.Entries.{kindAllowed, Head, first, wrong}
+
+-- an entry of the kind k, by the number that follows
+abbrev pub valued : ℕ → Parsed → Head ℕ
+valued k (value v next rest) = first k v next rest
+valued k (bad place) = wrong place
+
+abbrev pub judged : ℕ → ℕ → ℕ → Parsed → Head ℕ
+judged levels chutes at (value k next rest) = cond (kindAllowed levels chutes k) (valued k (planNumber next rest)) (wrong at)
+judged levels chutes at (bad place) = wrong place
+
+unfoldable pub byteHead : ℕ → ℕ → ℕ → List ℕ → Head ℕ
+byteHead levels chutes at s = judged levels chutes at (planNumber at s)

@@ -1,0 +1,162 @@
+-- The theorems on hall plans.
+use mathlib.Core.Path.{_≡_, refl, sym, ap, _∙_}
+use mathlib.Core.List.{List, [], _∷_, _++_, append-nil, append-assoc}
+use mathlib.Core.Bool.{Bool, true, false, cond}
+use Prim.Native.Nat.{ℕ, zero, suc, _≤_}
+use native.Mathlib.Omega.{arith}
+use lib.ListN.{length}
+use lib.Dec.{ltb, eqb}
+use borrow.Author.Tests.{eq-eqb}
+use Rattle.answers.specs.Numbers.{done, inputTooLong}
+use Rattle.leb128.specs.Number.{Parsed, value, bad, maxNumber}
+use Rattle.leb128.specs.Laws.Reading.{Used, groups-used, limit-three}
+use Rattle.plan_read.specs.Limits.{maxPlan, readsPadded}
+use Rattle.plan_read.specs.Plan.{planNumber}
+use Rattle.plan.specs.Answers.{lookupOf, lookupIn}
+use Rattle.plan_length.specs.Length.{lengthOf}
+use Rattle.plan_write.specs.Write.{writeRefusal, writtenOf}
+use Rattle.plan_write.specs.RoundTrip.{EachFits}
+use Rattle.plan_write.proofs.RoundTrip.{round-trip}
+use Rattle.hall_entry.specs.Limits.{levelsBelow}
+use Rattle.hall_entry.specs.Entries.{Entry, entry, chuteKind, hallKind, kindsOf, valuesOf, Read, reached, breach, entriesOf}
+use Rattle.hall_entry.specs.Bytes.{byteHead}
+use Rattle.hall_entry.specs.Laws.Induction.{AllGood}
+use Rattle.hall_entry.specs.Laws.Bytes.{NumberAfter, number-inside}
+use Rattle.hall_read.specs.Halls.{HallPlan, halls, refused, ending, withOuter, hallsOf}
+use Rattle.hall_read.specs.Laws.Refusals.{Numbered, plan-numbered}
+use Rattle.hall.specs.Answers.{hallSummary, hallSummaryOf, hallLookupOf}
+use Rattle.hall_lists.specs.Lists.{listsSummary, listsKinds, listsValues}
+use Rattle.hall_theorems.specs.Tree.{Hall, none, chute, inner, count, listed, chutes, Fits, Allowed}
+use Rattle.hall_theorems.specs.HallTheorems.{summaryOfHall, IsHall, Accepted, HallTheorems}
+use Rattle.hall_theorems.proofs.Trees.{Good, TreeOf, trees, listed-chutes}
+
+-- a hall plan that reads as a hall
+module _ (h : Hall) (s : List ℕ) (e : hallsOf s ≡ halls (count h) (listed h)) where
+  answered : hallSummaryOf s ≡ summaryOfHall h
+  unfolding hallSummaryOf
+  answered = rw (e, listed-chutes h)
+
+  looked-up : (c : ℕ) → hallLookupOf s c ≡ lookupIn (chutes h) c
+  unfolding hallLookupOf
+  looked-up c = rw (e, listed-chutes h)
+
+  same : eqb (length (listed h)) (length (listed h)) ≡ true
+  same = eq-eqb (length (listed h)) (length (listed h)) refl
+
+  lists-answered : listsSummary s (length (listed h)) (length (listed h)) ≡ summaryOfHall h
+  unfolding listsSummary
+  lists-answered = rw (e, same, listed-chutes h)
+
+  kinds-read : (kinds : List ℕ) → length kinds ≡ length (listed h) → listsKinds s kinds (length (listed h)) ≡ kindsOf (listed h)
+  unfolding listsKinds
+  kinds-read kinds n = rw (e, n, same)
+
+  values-read : (values : List ℕ) → length values ≡ length (listed h) → listsValues s (length (listed h)) values ≡ valuesOf (listed h)
+  unfolding listsValues
+  values-read values n = rw (e, n, same)
+
+  pub is-hall : IsHall h s
+  is-hall = record { summary = answered; every-chute = looked-up; lists-answer = lists-answered; lists-kinds = kinds-read; lists-values = values-read }
+
+-- the hall that an accepted plan is
+abbrev TreePlan : HallPlan → Type 0
+TreePlan (halls outer l) = (outer ≤ maxNumber) × TreeOf levelsBelow outer 0 l
+TreePlan (refused n place) = Unit
+
+tree-plan : (s : List ℕ) → TreePlan (hallsOf s)
+unfolding hallsOf
+tree-plan s = go (ltb maxPlan (length s))
+  where
+    of-ending : (outer at : ℕ) (t : List ℕ) (r : Read ℕ) → outer ≤ maxNumber → AllGood byteHead Good levelsBelow outer at 0 t r → TreePlan (ending outer r)
+    of-ending outer at t (reached l next []) o g = (o, g (omega arith))
+    of-ending outer at t (reached l next (b ∷ rest)) o g = tt
+    of-ending outer at t (breach place) o g = tt
+
+    of-outer : (p : Parsed) → NumberAfter s 0 p → TreePlan (withOuter p)
+    of-outer (value n next rest) u = of-ending n next rest (entriesOf byteHead levelsBelow n next 0 rest) (u .small) (trees levelsBelow n next 0 rest)
+    of-outer (bad place) u = tt
+
+    go : (b : Bool) → TreePlan (cond b (refused inputTooLong 0) (withOuter (planNumber 0 s)))
+    go true = tt
+    go false = of-outer (planNumber 0 s) (number-inside s 0 (omega arith))
+
+of-accepted : (s : List ℕ) → hallSummaryOf s .number ≡ done → Accepted s
+unfolding hallSummaryOf
+of-accepted s z = go (hallsOf s) refl (plan-numbered s) (tree-plan s) z
+  where
+    go : (p : HallPlan) → hallsOf s ≡ p → Numbered p → TreePlan p → hallSummary p .number ≡ done → Accepted s
+    go (halls outer l) e n w q =
+        let h = w .1 .hall in
+        let same : hallsOf s ≡ halls (count h) (listed h) = e ∙ rw (w .1 .is-count, w .1 .is-listed) in
+        record {
+          hall = h;
+          allowed = record { eight-levels = w .1 .deep; few-chutes = omega (arith, w .1 .few); outer-fits = omega (arith, w .0, w .1 .is-count); fits = w .1 .fits };
+          is = is-hall h s same;
+        }
+    go (refused m place) e n w q = absurd (omega arith)
+
+-- the flat plan of a hall's destinations
+fits-append : (l m : List ℕ) → EachFits l → EachFits m → EachFits (l ++ m)
+fits-append [] m a b = b
+fits-append (v ∷ l) m a b = (a .0, fits-append l m (a .1) b)
+
+chutes-fit : (h : Hall) → Fits h → EachFits (chutes h)
+unfolding chutes Fits
+chutes-fit none f = tt
+chutes-fit (chute d more) f = (f .0, chutes-fit more (f .1))
+chutes-fit (inner h more) f = fits-append (chutes h) (chutes more) (chutes-fit h (f .1 .0)) (chutes-fit more (f .1 .1))
+
+of-flat : (h : Hall) (s out : List ℕ) → Allowed h → IsHall h s → length out ≡ lengthOf (chutes h) .length
+    → (writeRefusal (chutes h) (length out) ≡ done) × ((c : ℕ) → hallLookupOf s c ≡ lookupOf (writtenOf (chutes h) out) c)
+of-flat h s out a i n =
+    let ok = round-trip .accepts (chutes h) (a .few-chutes) (chutes-fit h (a .fits)) in
+    let written : writeRefusal (chutes h) (length out) ≡ done = rw n (round-trip .length-accepted (chutes h) ok) in
+    (written, λ c. i .every-chute c ∙ sym (round-trip .reads-back (chutes h) out written .every-chute c))
+
+-- one hall, by its number of entries and its lists
+entries-same : (l m : List Entry) → kindsOf l ≡ kindsOf m → valuesOf l ≡ valuesOf m → l ≡ m
+entries-same [] [] a b = refl
+entries-same [] (e ∷ m) a b = absurd (omega (arith, ap length a))
+entries-same (e ∷ l) [] a b = absurd (omega (arith, ap length a))
+entries-same (e ∷ l) (f ∷ m) a b =
+    let k : e .kind ≡ f .kind = cc in
+    let v : e .value ≡ f .value = cc in
+    let ks : kindsOf l ≡ kindsOf m = cc in
+    let vs : valuesOf l ≡ valuesOf m = cc in
+    rw (entries-same l m ks vs) (ap (λ (x : Entry). x ∷ m) (rw (k, v)))
+
+same-halls : (h k : Hall) (x y : List Entry) → count h ≡ count k → listed h ++ x ≡ listed k ++ y → (h ≡ k) × (x ≡ y)
+unfolding count listed
+same-halls none none x y n e = (refl, e)
+same-halls none (chute d more) x y n e = absurd (omega arith)
+same-halls none (inner b more) x y n e = absurd (omega arith)
+same-halls (chute d m) none x y n e = absurd (omega arith)
+same-halls (inner a m) none x y n e = absurd (omega arith)
+same-halls (chute d m) (chute f k) x y n e =
+    let first : entry chuteKind d ≡ entry chuteKind f = cc in
+    let v : d ≡ f = ap (λ (z : Entry). z .value) first in
+    let t : listed m ++ x ≡ listed k ++ y = cc in
+    let w = same-halls m k x y (omega arith) t in
+    (rw (v, w .0), w .1)
+same-halls (chute d m) (inner b k) x y n e =
+    let first : entry chuteKind d ≡ entry hallKind (count b) = cc in
+    absurd (omega (arith, ap (λ (z : Entry). z .kind) first))
+same-halls (inner a m) (chute f k) x y n e =
+    let first : entry hallKind (count a) ≡ entry chuteKind f = cc in
+    absurd (omega (arith, ap (λ (z : Entry). z .kind) first))
+same-halls (inner a m) (inner b k) x y n e =
+    let first : entry hallKind (count a) ≡ entry hallKind (count b) = cc in
+    let c : count a ≡ count b = ap (λ (z : Entry). z .value) first in
+    let t : (listed a ++ listed m) ++ x ≡ (listed b ++ listed k) ++ y = cc in
+    let q : listed a ++ (listed m ++ x) ≡ listed b ++ (listed k ++ y) = sym (append-assoc (listed a) (listed m) x) ∙ t ∙ append-assoc (listed b) (listed k) y in
+    let v = same-halls a b (listed m ++ x) (listed k ++ y) c q in
+    let w = same-halls m k x y (omega arith) (v .1) in
+    (rw (v .0, w .0), w .1)
+
+pub hall-theorems : HallTheorems
+hall-theorems =
+    record {
+      accepted = of-accepted;
+      flat-plan = of-flat;
+      one-hall = λ h k n a b. same-halls h k [] [] n (ap (λ (x : List Entry). x ++ []) (entries-same (listed h) (listed k) a b)) .0;
+    }

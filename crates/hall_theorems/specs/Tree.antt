@@ -1,0 +1,56 @@
+-- A hall as it stands in a building (docs/RULES.md, 'Hall plan'): its entries one after another, each a chute with its destination or again a hall. Bytes and
+-- readers play no part here.
+use Prim.Native.Nat.{ℕ, zero, suc, _≤_}
+use mathlib.Core.List.{List, [], _∷_, _++_}
+use mathlib.Core.Bool.{cond}
+use lib.Dec.{ltb}
+use lib.ListN.{length}
+use Rattle.leb128.specs.Number.{maxNumber}
+use Rattle.hall_entry.specs.Limits.{maxChutes, maxLevels}
+use Rattle.hall_entry.specs.Entries.{Entry, entry, chuteKind, hallKind}
+
+-- a hall by its entries: none, or a chute or a hall and then the entries after it
+pub data Hall : Type 0 where
+  none : Hall
+  chute : ℕ → Hall → Hall
+  inner : Hall → Hall → Hall
+
+-- its number of entries
+unfoldable pub count : Hall → ℕ
+count none = 0
+count (chute d more) = suc (count more)
+count (inner h more) = suc (count more)
+
+-- its entries in reading order, those of the halls in it too
+unfoldable pub listed : Hall → List Entry
+listed none = []
+listed (chute d more) = entry chuteKind d ∷ listed more
+listed (inner h more) = entry hallKind (count h) ∷ (listed h ++ listed more)
+
+-- the destinations of its chutes in reading order, those of the halls in it too
+unfoldable pub chutes : Hall → List ℕ
+chutes none = []
+chutes (chute d more) = d ∷ chutes more
+chutes (inner h more) = chutes h ++ chutes more
+
+-- its levels: itself, and those of the halls in it
+abbrev pub larger : ℕ → ℕ → ℕ
+larger a b = cond (ltb a b) b a
+
+unfoldable pub levels : Hall → ℕ
+levels none = 1
+levels (chute d more) = levels more
+levels (inner h more) = larger (suc (levels h)) (levels more)
+
+-- three groups hold each destination, and the number of entries of each hall in it
+unfoldable pub Fits : Hall → Type 0
+Fits none = Unit
+Fits (chute d more) = (d ≤ maxNumber) × Fits more
+Fits (inner h more) = (count h ≤ maxNumber) × (Fits h × Fits more)
+
+-- what a hall plan may hold
+pub record Allowed (h : Hall) : Type 0 where
+  pub eight-levels : levels h ≤ maxLevels
+  pub few-chutes : length (chutes h) ≤ maxChutes
+  pub outer-fits : count h ≤ maxNumber
+  pub fits : Fits h
