@@ -17,7 +17,7 @@ use Rattle.hall_read.specs.declared.Place.{Place}
 use Rattle.hall_read.specs.declared.Pass.{Pass}
 use Rattle.hall_read.specs.declared.Pass.the-variants.{Reached, Breach}
 use Rattle.hall_read.specs.Laws.Kept.{moved-chute}
-use Rattle.hall_read.specs.Laws.Reading.{EntriesIn, After, after-hall}
+use Rattle.hall_read.specs.Laws.Reading.{After, after-hall}
 use Rattle.hall_check.specs.Lists.{pairs, listHead, allRead, hallsAllowed, listsAllowed}
 use Rattle.hall_check.specs.Passing.{hallPassed}
 use Rattle.hall_check.specs.Laws.Pairs.{length-pairs, drop-pairs}

@@ -1,6 +1,6 @@
 -- The bytes counted so far, with those of the entries to come, make the length: each turn counts one entry, and a count past the limit ends the counting.
 use mathlib.Core.Path.{_≡_, refl, ap, _∙_}
-use Prim.Native.Nat.{ℕ, _≤_, _+_, _-_}
+use Prim.Native.Nat.{ℕ, _+_, _-_}
 use native.Mathlib.Omega.{arith}
 use borrow.Author.Needs.{needs}
 use denote.Ref.{now}
