@@ -5,6 +5,7 @@ mod sessions; // sessions.rt: running sessions
 mod seals; // seals.rt: sealing and opening
 mod generators; // generators.rt: the generator
 mod plans; // plans.rt: the chute plan
+mod halls; // halls.rt: the hall plan
 
 ghost use mathlib.Core.Path.{_≡_};
 ghost use Rattle.version.specs.Version.{version};
