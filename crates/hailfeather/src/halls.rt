@@ -23,7 +23,11 @@ pub extern "C" fn hf_hall_destination(plan: &[u8], chute: u64) -> Lookup
 }
 
 #[no_mangle]
-pub extern "C" fn hf_hall_read_into(plan: &[u8], kinds: &mut [u8], values: &mut [u32]) -> HallSummary
+pub extern "C" fn hf_hall_read_into(
+    plan: &[u8],
+    kinds: &mut [u8],
+    values: &mut [u32],
+) -> HallSummary
     ensures { λ r. ⌜ FillsLists (now (plan .entry)) (now (kinds .entry)) (now (values .entry)) (now (kinds .exit)) (now (values .exit)) r ⌝ }
 {
     hall_lists::read_into(plan, kinds, values)
