@@ -2,7 +2,7 @@
 ghost use mathlib.Core.Path.{_≡_};
 ghost use Rattle.hall.specs.Answers.{hallSummaryOf, hallLookupOf};
 ghost use Rattle.hall_lists.specs.Lists.{FillsLists};
-ghost use Rattle.hall_length.specs.Length.{lengthOf};
+ghost use Rattle.hall_length.specs.Length.{hallLengthOf};
 ghost use Rattle.hall_write.specs.Write.{WritesHalls};
 use hall::HallSummary;
 use plan::Lookup;
@@ -35,7 +35,7 @@ pub extern "C" fn hf_hall_read_into(
 
 #[no_mangle]
 pub extern "C" fn hf_hall_length(outer: u64, kinds: &[u8], values: &[u32]) -> PlanLength
-    ensures { λ r. ⌜ r ≡ lengthOf outer (now (kinds .entry)) (now (values .entry)) ⌝ }
+    ensures { λ r. ⌜ r ≡ hallLengthOf outer (now (kinds .entry)) (now (values .entry)) ⌝ }
 {
     hall_length::hall_length(outer, kinds, values)
 }

@@ -14,7 +14,7 @@ use Rattle.plan_length.specs.Length.{lengthIs, noLength}
 use Rattle.hall_check.specs.Lists.{pairs, listsAllowed}
 use Rattle.hall_check.specs.Laws.Taken.{EntriesFit}
 use Rattle.hall_length.specs.Written.{writtenEntries}
-use Rattle.hall_length.specs.Length.{tooLong, lengthWithin, lengthOf}
+use Rattle.hall_length.specs.Length.{tooLong, lengthWithin, hallLengthOf}
 use Rattle.hall_length.specs.Laws.{halls-length, next-fit, next-length}
 
 -- of n bytes counted so far, and the entries from an index on: all together they are the plan
@@ -50,10 +50,10 @@ within-limit n h = rw (le-ltb _ _ h)
 
 module _ (outer : ℕ) (kinds values : List ℕ) where
   pub length-allowed : listsAllowed outer kinds values ≡ true
-      → lengthWithin (length (writtenNumber outer) + length (writtenEntries (pairs kinds values))) ≡ lengthOf outer kinds values
-  unfolding lengthOf
+      → lengthWithin (length (writtenNumber outer) + length (writtenEntries (pairs kinds values))) ≡ hallLengthOf outer kinds values
+  unfolding hallLengthOf
   length-allowed ok = rw (ok, halls-length outer (pairs kinds values))
 
-  pub length-refused : listsAllowed outer kinds values ≡ false → noLength ≡ lengthOf outer kinds values
-  unfolding lengthOf
+  pub length-refused : listsAllowed outer kinds values ≡ false → noLength ≡ hallLengthOf outer kinds values
+  unfolding hallLengthOf
   length-refused ok = rw ok

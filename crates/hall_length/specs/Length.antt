@@ -19,5 +19,5 @@ tooLong = record { number = inputTooLong; length = 0 }
 abbrev pub lengthWithin : ℕ → PlanLength
 lengthWithin n = cond (ltb maxPlan n) tooLong (lengthIs n)
 
-unfoldable pub lengthOf : ℕ → List ℕ → List ℕ → PlanLength
-lengthOf outer kinds values = cond (listsAllowed outer kinds values) (lengthWithin (length (writtenHalls outer (pairs kinds values)))) noLength
+unfoldable pub hallLengthOf : ℕ → List ℕ → List ℕ → PlanLength
+hallLengthOf outer kinds values = cond (listsAllowed outer kinds values) (lengthWithin (length (writtenHalls outer (pairs kinds values)))) noLength

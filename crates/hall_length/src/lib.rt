@@ -4,7 +4,7 @@ ghost use Prim.Native.Nat.{_+_, _≤_};
 ghost use lib.ListN.{length};
 ghost use Rattle.hall_check.specs.Lists.{pairs};
 ghost use Rattle.hall_length.specs.Written.{writtenEntries};
-ghost use Rattle.hall_length.specs.Length.{lengthWithin, lengthOf};
+ghost use Rattle.hall_length.specs.Length.{lengthWithin, hallLengthOf};
 ghost use Rattle.hall_length.specs.Room.{ListsFit};
 use plan_length::PlanLength;
 
@@ -41,7 +41,7 @@ fn entries_length(kinds: &[u8], values: &[u32], first: usize) -> PlanLength
 
 // How many bytes the hall plan of an outermost number and two lists takes. A caller who writes it lends a buffer of exactly this length.
 pub fn hall_length(outer: u64, kinds: &[u8], values: &[u32]) -> PlanLength
-    ensures { λ r. ⌜ r ≡ lengthOf outer (now (kinds .entry)) (now (values .entry)) ⌝ }
+    ensures { λ r. ⌜ r ≡ hallLengthOf outer (now (kinds .entry)) (now (values .entry)) ⌝ }
 {
     if hall_check::halls_allowed(outer, kinds, values) {
         let first = leb128_write::number_length(outer as u32);

@@ -1,13 +1,13 @@
 -- Laws of reading into lists: which case of the definitions holds, from the summary and the lists' lengths.
 use mathlib.Core.Path.{_≡_, refl, sym, ap, _∙_}
-use mathlib.Core.List.{List, append-nil}
+use mathlib.Core.List.{List}
 use mathlib.Core.Bool.{false}
-use Prim.Native.Nat.{ℕ, _+_, _≤_}
+use Prim.Native.Nat.{ℕ, _≤_}
 use native.Mathlib.Omega.{arith}
 use lib.ListN.{length, drop, length-map}
-use lib.Seq.{sets, sets-eq, drop-length}
 use borrow.Author.Tests.{eq-eqb, ne-eqb}
 use Rattle.answers.specs.Numbers.{done, malformedPlan}
+use Rattle.stores.specs.Laws.{sets-all}
 use Rattle.plan_read.specs.Plan.{planNumber}
 use Rattle.hall_entry.specs.Entries.{Entry, kindsOf, valuesOf}
 use Rattle.hall_read.specs.Halls.{HallPlan, halls, refused, hallsOf}
@@ -27,12 +27,6 @@ pub record Accepted (s : List ℕ) (r : HallSummary) : Type 0 where
   pub entries : r .entries ≡ length l
   pub inside : entriesStart (planNumber 0 s) ≤ length s
   pub read : flat (length l) (entriesStart (planNumber 0 s)) (drop (entriesStart (planNumber 0 s)) s) ≡ l
-
-sets-all : (l xs : List ℕ) → length xs ≡ length l → sets l 0 xs ≡ xs
-sets-all l xs e =
-    let h : 0 + length xs ≤ length l = omega arith in
-    let k : 0 + length xs ≡ length l = omega arith in
-    sets-eq xs l 0 h ∙ rw (k, drop-length) (append-nil xs)
 
 module _ (s kinds values : List ℕ) (r : HallSummary) (e : r ≡ hallSummaryOf s) where
   pub into-refused : (r .number ≡ done → ⊥) → FillsLists s kinds values kinds values r

@@ -15,20 +15,20 @@ use Rattle.plan_length.specs.Length.{lengthIs, noLength}
 use Rattle.plan_length.specs.declared.PlanLength.{PlanLength}
 use Rattle.hall_check.specs.Lists.{pairs, listsAllowed}
 use Rattle.hall_length.specs.Written.{writtenEntries, writtenHalls}
-use Rattle.hall_length.specs.Length.{tooLong, lengthOf}
-use Rattle.hall_write.specs.Write.{fills, writeRefusal, writtenOf, WritesHalls}
-use Rattle.hall_write.proofs.Stores.{sets-append, sets-all}
+use Rattle.hall_length.specs.Length.{tooLong, hallLengthOf}
+use Rattle.hall_write.specs.Write.{hallsFill, hallWriteRefusal, hallWrittenOf, WritesHalls}
+use Rattle.stores.specs.Laws.{sets-append, sets-all}
 
 module _ (outer : ℕ) (kinds values : List ℕ) where
   abbrev pub Text : List ℕ
   Text = writtenHalls outer (pairs kinds values)
 
   pub long-buffer : (out : List ℕ) → maxPlan < length out → WritesHalls outer kinds values out out inputTooLong
-  unfolding writeRefusal writtenOf
+  unfolding hallWriteRefusal hallWrittenOf
   long-buffer out h = record { number = rw (lt-ltb _ _ h); buffer = rw (lt-ltb _ _ h) }
 
-  not-filled : (out : List ℕ) → length out ≤ maxPlan → fills outer kinds values (length out) ≡ false → WritesHalls outer kinds values out out malformedPlan
-  unfolding writeRefusal writtenOf
+  not-filled : (out : List ℕ) → length out ≤ maxPlan → hallsFill outer kinds values (length out) ≡ false → WritesHalls outer kinds values out out malformedPlan
+  unfolding hallWriteRefusal hallWrittenOf
   not-filled out h f = record { number = rw (le-ltb _ _ h, f); buffer = rw (le-ltb _ _ h, f) }
 
   -- what a length says that was answered
@@ -37,9 +37,9 @@ module _ (outer : ℕ) (kinds values : List ℕ) where
     pub is : n ≡ length Text
     pub within : n ≤ maxPlan
 
-  module _ (p : PlanLength) (e : p ≡ lengthOf outer kinds values) where
+  module _ (p : PlanLength) (e : p ≡ hallLengthOf outer kinds values) where
     pub asked : p .number ≡ done → Asked (p .length)
-    unfolding lengthOf
+    unfolding hallLengthOf
     asked z = go (listsAllowed outer kinds values) (ltb maxPlan (length Text)) refl refl e
       where
         go : (a b : Bool) → listsAllowed outer kinds values ≡ a → ltb maxPlan (length Text) ≡ b → p ≡ cond a (cond b tooLong (lengthIs (length Text))) noLength
@@ -52,7 +52,7 @@ module _ (outer : ℕ) (kinds values : List ℕ) where
 
     -- lists that break the rules, or whose plan is longer than a buffer may be
     pub refused : (out : List ℕ) → length out ≤ maxPlan → (p .number ≡ done → ⊥) → WritesHalls outer kinds values out out malformedPlan
-    unfolding lengthOf fills
+    unfolding hallLengthOf hallsFill
     refused out short n =
         not-filled out short (go (listsAllowed outer kinds values) (ltb maxPlan (length Text)) refl (λ q. n (ap (λ (x : PlanLength). x .number) e ∙ q)))
       where
@@ -64,12 +64,12 @@ module _ (outer : ℕ) (kinds values : List ℕ) where
 
   module _ (n : ℕ) (a : Asked n) where
     -- a buffer of the length that was answered is filled
-    pub filled : writeRefusal outer kinds values n ≡ done
-    unfolding writeRefusal fills
+    pub filled : hallWriteRefusal outer kinds values n ≡ done
+    unfolding hallWriteRefusal hallsFill
     filled = let m : length Text ≡ n = sym (a .is) in rw (le-ltb _ _ (a .within), a .ok, eq-eqb _ _ m)
 
     pub other-length : (out : List ℕ) → length out ≤ maxPlan → (n ≡ length out → ⊥) → WritesHalls outer kinds values out out malformedPlan
-    unfolding fills
+    unfolding hallsFill
     other-length out short o =
         let d : length Text ≡ length out → ⊥ = λ q. o (a .is ∙ q) in
         not-filled out short (rw (a .ok, ne-eqb _ _ d))
@@ -77,7 +77,7 @@ module _ (outer : ℕ) (kinds values : List ℕ) where
     -- both runs of stores together are the hall plan
     pub all-written : (out one two : List ℕ) → n ≡ length out → one ≡ sets out 0 (writtenNumber outer)
         → two ≡ sets one (length (writtenNumber outer)) (writtenEntries (pairs kinds values)) → WritesHalls outer kinds values out two done
-    unfolding writtenOf fills writtenHalls
+    unfolding hallWrittenOf hallsFill writtenHalls
     all-written out one two m eo et =
         let same : length Text ≡ length out = sym (a .is) ∙ m in
         let short : length out ≤ maxPlan = omega (arith, a .within) in

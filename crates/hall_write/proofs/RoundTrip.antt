@@ -13,8 +13,8 @@ use Rattle.hall_read.specs.Halls.{hallsOf}
 use Rattle.hall_check.specs.Lists.{pairs, listsAllowed}
 use Rattle.hall_check.specs.Laws.Pairs.{pairs-kinds, pairs-values}
 use Rattle.hall_check.specs.Laws.Taken.{lists-known}
-use Rattle.hall_length.specs.Length.{lengthOf}
-use Rattle.hall_write.specs.Write.{fills, writeRefusal, writtenOf}
+use Rattle.hall_length.specs.Length.{hallLengthOf}
+use Rattle.hall_write.specs.Write.{hallsFill, hallWriteRefusal, hallWrittenOf}
 use Rattle.hall_write.specs.RoundTrip.{SameHalls, RoundTrip}
 use Rattle.hall_write.specs.Laws.{halls-back}
 use Rattle.hall_write.proofs.Answers.{Text, asked, filled}
@@ -31,9 +31,9 @@ module _ (outer : ℕ) (kinds values : List ℕ) where
         same-values = pairs-values kinds values (a .equal);
       }
 
-  written-reads : (out : List ℕ) → writeRefusal outer kinds values (length out) ≡ done
-      → SameHalls outer kinds values (hallsOf (writtenOf outer kinds values out))
-  unfolding writeRefusal writtenOf fills
+  written-reads : (out : List ℕ) → hallWriteRefusal outer kinds values (length out) ≡ done
+      → SameHalls outer kinds values (hallsOf (hallWrittenOf outer kinds values out))
+  unfolding hallWriteRefusal hallWrittenOf hallsFill
   written-reads out e =
       go (ltb maxPlan (length out)) (listsAllowed outer kinds values) (eqb (length (Text outer kinds values)) (length out)) refl refl refl e
     where
@@ -48,8 +48,8 @@ module _ (outer : ℕ) (kinds values : List ℕ) where
       go false true false et ea ef q = absurd (omega arith)
       go false false f et ea ef q = absurd (omega arith)
 
-  accepted : lengthOf outer kinds values .number ≡ done → writeRefusal outer kinds values (lengthOf outer kinds values .length) ≡ done
-  accepted z = filled outer kinds values (lengthOf outer kinds values .length) (asked outer kinds values (lengthOf outer kinds values) refl z)
+  accepted : hallLengthOf outer kinds values .number ≡ done → hallWriteRefusal outer kinds values (hallLengthOf outer kinds values .length) ≡ done
+  accepted z = filled outer kinds values (hallLengthOf outer kinds values .length) (asked outer kinds values (hallLengthOf outer kinds values) refl z)
 
 pub round-trip : RoundTrip
 round-trip = record { reads-back = written-reads; length-accepted = accepted }

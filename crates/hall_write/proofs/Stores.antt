@@ -1,10 +1,11 @@
 -- Laws of entries stored one after another: the stores of the entries to come, by the entry that comes next.
 use mathlib.Core.Path.{_≡_, sym, ap, _∙_}
-use mathlib.Core.List.{List, [], _∷_, _++_, append-nil}
-use Prim.Native.Nat.{ℕ, suc, _+_, _≤_, _<_}
+use mathlib.Core.List.{List, _++_}
+use Prim.Native.Nat.{ℕ, _+_, _≤_, _<_}
 use native.Mathlib.Omega.{arith}
-use lib.ListN.{length, getD, drop, set}
-use lib.Seq.{drop-length, sets, sets-eq, length-sets}
+use lib.ListN.{length, getD, drop}
+use lib.Seq.{sets, length-sets}
+use Rattle.stores.specs.Laws.{sets-append}
 use Rattle.leb128_write.specs.Written.{writtenNumber}
 use Rattle.leb128_write.specs.Answers.{writtenPast, numberWritten}
 use Rattle.leb128_write.specs.Laws.{past-written, is-written}
@@ -13,17 +14,6 @@ use Rattle.hall_check.specs.Laws.Pairs.{drop-pairs}
 use Rattle.hall_check.specs.Laws.Taken.{EntriesFit}
 use Rattle.hall_length.specs.Written.{writtenEntries}
 use Rattle.hall_length.specs.Laws.{next-fit, next-length}
-
--- stores one run after another
-pub sets-append : (l : List ℕ) (i : ℕ) (xs ys : List ℕ) → sets l i (xs ++ ys) ≡ sets (sets l i xs) (i + length xs) ys
-sets-append l i [] ys = let k : i + 0 ≡ i = omega arith in rw k
-sets-append l i (x ∷ xs) ys = let k : i + suc (length xs) ≡ suc i + length xs = omega arith in rw k (sets-append (set l i x) (suc i) xs ys)
-
-pub sets-all : (l xs : List ℕ) → length xs ≡ length l → sets l 0 xs ≡ xs
-sets-all l xs e =
-    let h : 0 + length xs ≤ length l = omega arith in
-    let k : 0 + length xs ≡ length l = omega arith in
-    sets-eq xs l 0 h ∙ rw (k, drop-length) (append-nil xs)
 
 -- of what is stored so far, up to a place, and the entries from an index on: their stores make those of all entries
 pub record Putting (kinds values out₀ : List ℕ) (first : ℕ) (out : List ℕ) (at i : ℕ) : Type 0 where

@@ -6,8 +6,8 @@ use lib.ListN.{length}
 use Rattle.answers.specs.Numbers.{done}
 use Rattle.hall_entry.specs.Entries.{Entry, kindsOf, valuesOf}
 use Rattle.hall_read.specs.Halls.{HallPlan, halls, hallsOf}
-use Rattle.hall_length.specs.Length.{lengthOf}
-use Rattle.hall_write.specs.Write.{writeRefusal, writtenOf}
+use Rattle.hall_length.specs.Length.{hallLengthOf}
+use Rattle.hall_write.specs.Write.{hallWriteRefusal, hallWrittenOf}
 
 -- a hall plan's halls are those of an outermost number and two lists
 pub record SameHalls (outer : ℕ) (kinds values : List ℕ) (p : HallPlan) : Type 0 where
@@ -18,8 +18,8 @@ pub record SameHalls (outer : ℕ) (kinds values : List ℕ) (p : HallPlan) : Ty
 
 pub record RoundTrip : Type 0 where
   -- where writing was accepted, the buffer reads as the same halls: the outermost number, the kinds and the values
-  pub reads-back : (outer : ℕ) (kinds values out : List ℕ) → writeRefusal outer kinds values (length out) ≡ done
-      → SameHalls outer kinds values (hallsOf (writtenOf outer kinds values out))
+  pub reads-back : (outer : ℕ) (kinds values out : List ℕ) → hallWriteRefusal outer kinds values (length out) ≡ done
+      → SameHalls outer kinds values (hallsOf (hallWrittenOf outer kinds values out))
   -- a buffer of the length that was asked for first is accepted
-  pub length-accepted : (outer : ℕ) (kinds values : List ℕ) → lengthOf outer kinds values .number ≡ done
-      → writeRefusal outer kinds values (lengthOf outer kinds values .length) ≡ done
+  pub length-accepted : (outer : ℕ) (kinds values : List ℕ) → hallLengthOf outer kinds values .number ≡ done
+      → hallWriteRefusal outer kinds values (hallLengthOf outer kinds values .length) ≡ done

@@ -12,18 +12,18 @@ use Rattle.hall_check.specs.Lists.{pairs, listsAllowed}
 use Rattle.hall_length.specs.Written.{writtenHalls}
 
 -- they keep the rules and fill n bytes exactly
-unfoldable pub fills : ℕ → List ℕ → List ℕ → ℕ → Bool
-fills outer kinds values n = listsAllowed outer kinds values && eqb (length (writtenHalls outer (pairs kinds values))) n
+unfoldable pub hallsFill : ℕ → List ℕ → List ℕ → ℕ → Bool
+hallsFill outer kinds values n = listsAllowed outer kinds values && eqb (length (writtenHalls outer (pairs kinds values))) n
 
-unfoldable pub writeRefusal : ℕ → List ℕ → List ℕ → ℕ → ℕ
-writeRefusal outer kinds values n = cond (ltb maxPlan n) inputTooLong (cond (fills outer kinds values n) done malformedPlan)
+unfoldable pub hallWriteRefusal : ℕ → List ℕ → List ℕ → ℕ → ℕ
+hallWriteRefusal outer kinds values n = cond (ltb maxPlan n) inputTooLong (cond (hallsFill outer kinds values n) done malformedPlan)
 
 -- what the lent buffer holds afterwards: the hall plan, or what it held before
-unfoldable pub writtenOf : ℕ → List ℕ → List ℕ → List ℕ → List ℕ
-writtenOf outer kinds values out =
-    cond (ltb maxPlan (length out)) out (cond (fills outer kinds values (length out)) (writtenHalls outer (pairs kinds values)) out)
+unfoldable pub hallWrittenOf : ℕ → List ℕ → List ℕ → List ℕ → List ℕ
+hallWrittenOf outer kinds values out =
+    cond (ltb maxPlan (length out)) out (cond (hallsFill outer kinds values (length out)) (writtenHalls outer (pairs kinds values)) out)
 
 -- writing them into a lent buffer answers r, and leaves `after` in it
 pub record WritesHalls (outer : ℕ) (kinds values out after : List ℕ) (r : ℕ) : Type 0 where
-  pub number : r ≡ writeRefusal outer kinds values (length out)
-  pub buffer : after ≡ writtenOf outer kinds values out
+  pub number : r ≡ hallWriteRefusal outer kinds values (length out)
+  pub buffer : after ≡ hallWrittenOf outer kinds values out

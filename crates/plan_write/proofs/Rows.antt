@@ -1,14 +1,15 @@
 -- Laws of rows written one after another: the stores of the rows to come, and which case of the definitions holds.
 use mathlib.Core.Path.{_≡_, refl, sym, ap, _∙_}
-use mathlib.Core.List.{List, [], _∷_, _++_, append-nil}
+use mathlib.Core.List.{List, []}
 use mathlib.Core.Bool.{Bool, true, false, cond, _&&_}
-use Prim.Native.Nat.{ℕ, suc, _+_, _≤_, _<_}
+use Prim.Native.Nat.{ℕ, _+_, _≤_, _<_}
 use native.Mathlib.Omega.{arith}
-use lib.ListN.{length, getD, drop, set, drop-of-length-le}
-use lib.Seq.{drop-length, sets, sets-eq}
+use lib.ListN.{length, getD, drop, drop-of-length-le}
+use lib.Seq.{sets}
 use lib.Dec.{leb, eqb}
 use borrow.Author.Tests.{leb-true, eq-eqb, ne-eqb}
 use Rattle.answers.specs.Numbers.{done, malformedPlan}
+use Rattle.stores.specs.Laws.{sets-append, sets-all}
 use Rattle.leb128_write.specs.Written.{writtenNumber}
 use Rattle.plan_read.specs.Limits.{maxRows, maxDestination}
 use Rattle.plan_length.specs.Length.{writtenRows, writtenPlan, rowsAllowed, allowed, lengthIs, noLength, lengthOf}
@@ -16,17 +17,6 @@ use Rattle.plan_length.specs.Laws.{and-left, and-right}
 use Rattle.plan_length.specs.declared.PlanLength.{PlanLength}
 use Rattle.plan_length.proofs.Rows.{here, rows-length, rows-allowed}
 use Rattle.plan_write.specs.Write.{fills, writeRefusal, writtenOf, WritesPlan}
-
--- stores one run after another
-sets-append : (l : List ℕ) (i : ℕ) (xs ys : List ℕ) → sets l i (xs ++ ys) ≡ sets (sets l i xs) (i + length xs) ys
-sets-append l i [] ys = let k : i + 0 ≡ i = omega arith in rw k
-sets-append l i (x ∷ xs) ys = let k : i + suc (length xs) ≡ suc i + length xs = omega arith in rw k (sets-append (set l i x) (suc i) xs ys)
-
-sets-all : (l xs : List ℕ) → length xs ≡ length l → sets l 0 xs ≡ xs
-sets-all l xs e =
-    let h : 0 + length xs ≤ length l = omega arith in
-    let k : 0 + length xs ≡ length l = omega arith in
-    sets-eq xs l 0 h ∙ rw (k, drop-length) (append-nil xs)
 
 module _ (i : ℕ) (l : List ℕ) (h : i < length l) where
   -- rows stored one after another
