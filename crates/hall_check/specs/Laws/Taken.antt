@@ -30,8 +30,8 @@ pub record TakenFrom (s l rest : List Entry) : Type 0 where
   pub whole : l ++ rest ≡ s
   pub fit : EntriesFit l
 
-abbrev Good : (levels n at chutes : ℕ) → List Entry → List Entry → ℕ → List Entry → Type 0
-Good levels n at chutes s l next rest = TakenFrom s l rest
+abbrev pub Taken : (levels n at chutes : ℕ) → List Entry → List Entry → ℕ → List Entry → Type 0
+Taken levels n at chutes s l next rest = TakenFrom s l rest
 
 -- an entry before entries
 taken-more : (levels chutes at k v mid : ℕ) (s t l rest : List Entry) → listHead levels chutes at s ≡ first k v mid t → TakenFrom t l rest
@@ -48,10 +48,10 @@ taken-both : (s t l k rest : List Entry) → TakenFrom s l t → TakenFrom t k r
 taken-both s t l k rest a b =
     record { whole = append-assoc l k rest ∙ ap (λ (x : List Entry). l ++ x) (b .whole) ∙ a .whole; fit = fit-append l k (a .fit) (b .fit) }
 
-pub taken : (levels n at chutes : ℕ) (s : List Entry) → AllGood listHead Good levels n at chutes s (entriesOf listHead levels n at chutes s)
+pub taken : (levels n at chutes : ℕ) (s : List Entry) → AllGood listHead Taken levels n at chutes s (entriesOf listHead levels n at chutes s)
 unfolding EntriesFit
 taken levels n at chutes s =
-    reads-good listHead Good
+    reads-good listHead Taken
     (λ levels at chutes s. record { whole = refl; fit = tt })
     (λ levels n at chutes s v mid t l next rest e g. taken-more levels chutes at chuteKind v mid s t l rest e g)
     (λ levels n at chutes s k v mid t inner past u l next rest e o i g.
@@ -86,7 +86,7 @@ pub read-whole : (levels n at chutes : ℕ) (l : List Entry) → allRead (entrie
     → ReadWhole l (entriesOf listHead levels n at chutes l)
 read-whole levels n at chutes l = go (entriesOf listHead levels n at chutes l) (taken levels n at chutes l)
   where
-    go : (r : Read Entry) → AllGood listHead Good levels n at chutes l r → allRead r ≡ true → ReadWhole l r
+    go : (r : Read Entry) → AllGood listHead Taken levels n at chutes l r → allRead r ≡ true → ReadWhole l r
     go (reached k next []) a ok =
         let e : k ≡ l = sym (append-nil k) ∙ a .whole in
         record { next = next; is = rw e; fit = rw e at (a .fit) }
