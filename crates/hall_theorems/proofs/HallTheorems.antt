@@ -26,9 +26,14 @@ use Rattle.hall_read.specs.Halls.{HallPlan, halls, refused, ending, withOuter, 
 use Rattle.hall_read.specs.Laws.Refusals.{Numbered, plan-numbered}
 use Rattle.hall.specs.Answers.{hallSummary, hallSummaryOf, hallLookupOf}
 use Rattle.hall_lists.specs.Lists.{listsSummary, listsKinds, listsValues}
-use Rattle.hall_theorems.specs.Tree.{Hall, none, chute, inner, count, listed, chutes, Fits, Allowed}
-use Rattle.hall_theorems.specs.HallTheorems.{summaryOfHall, IsHall, Accepted, HallTheorems}
+use Rattle.hall_length.specs.Written.{writtenHalls}
+use Rattle.hall_length.specs.Length.{lengthWithin, hallLengthOf}
+use Rattle.hall_write.specs.Write.{hallWriteRefusal, hallWrittenOf}
+use Rattle.hall_write.proofs.RoundTrip.{round-trip as halls-back}
+use Rattle.hall_theorems.specs.Tree.{Hall, none, chute, inner, count, listed, chutes, Fits, WithinLimits}
+use Rattle.hall_theorems.specs.HallTheorems.{summaryOfHall, IsHall, Accepted, Written, HallTheorems}
 use Rattle.hall_theorems.proofs.Trees.{Good, TreeOf, trees, listed-chutes}
+use Rattle.hall_theorems.proofs.Lists.{pairs-back, hall-allowed}
 
 -- a hall plan that reads as a hall
 module _ (h : Hall) (s : List ℕ) (e : hallsOf s ≡ halls (count h) (listed h)) where
@@ -80,20 +85,35 @@ tree-plan s = go (ltb maxPlan (length s))
     go true = tt
     go false = of-outer (planNumber 0 s) (number-inside s 0 (omega arith))
 
+-- it is that hall, and its entries are those that were read
+pub record ReadHall (s : List ℕ) (outer : ℕ) (l : List Entry) : Type 0 where
+  pub accepted : Accepted s
+  pub same-outer : count (accepted .hall) ≡ outer
+  pub same-entries : listed (accepted .hall) ≡ l
+
+read-hall : (s : List ℕ) (outer : ℕ) (l : List Entry) → hallsOf s ≡ halls outer l → ReadHall s outer l
+read-hall s outer l e = go (rw e at (tree-plan s))
+  where
+    go : TreePlan (halls outer l) → ReadHall s outer l
+    go (o, w) =
+        let same : hallsOf s ≡ halls (count (w .hall)) (listed (w .hall)) = e ∙ rw (w .is-count, w .is-listed) in
+        record {
+          accepted = record {
+            hall = w .hall;
+            within = record { eight-levels = w .deep; few-chutes = omega (arith, w .few); outer-fits = omega (arith, w .is-count); fits = w .fits };
+            is = is-hall (w .hall) s same;
+          };
+          same-outer = w .is-count;
+          same-entries = w .is-listed;
+        }
+
 of-accepted : (s : List ℕ) → hallSummaryOf s .number ≡ done → Accepted s
 unfolding hallSummaryOf
-of-accepted s z = go (hallsOf s) refl (plan-numbered s) (tree-plan s) z
+of-accepted s z = go (hallsOf s) refl (plan-numbered s) z
   where
-    go : (p : HallPlan) → hallsOf s ≡ p → Numbered p → TreePlan p → hallSummary p .number ≡ done → Accepted s
-    go (halls outer l) e n w q =
-        let h = w .1 .hall in
-        let same : hallsOf s ≡ halls (count h) (listed h) = e ∙ rw (w .1 .is-count, w .1 .is-listed) in
-        record {
-          hall = h;
-          allowed = record { eight-levels = w .1 .deep; few-chutes = omega (arith, w .1 .few); outer-fits = omega (arith, w .0, w .1 .is-count); fits = w .1 .fits };
-          is = is-hall h s same;
-        }
-    go (refused m place) e n w q = absurd (omega arith)
+    go : (p : HallPlan) → hallsOf s ≡ p → Numbered p → hallSummary p .number ≡ done → Accepted s
+    go (halls outer l) e n q = read-hall s outer l e .accepted
+    go (refused m place) e n q = absurd (omega arith)
 
 -- the flat plan of a hall's destinations
 fits-append : (l m : List ℕ) → EachFits l → EachFits m → EachFits (l ++ m)
@@ -106,12 +126,35 @@ chutes-fit none f = tt
 chutes-fit (chute d more) f = (f .0, chutes-fit more (f .1))
 chutes-fit (inner h more) f = fits-append (chutes h) (chutes more) (chutes-fit h (f .1 .0)) (chutes-fit more (f .1 .1))
 
-of-flat : (h : Hall) (s out : List ℕ) → Allowed h → IsHall h s → length out ≡ lengthOf (chutes h) .length
+of-flat : (h : Hall) (s out : List ℕ) → WithinLimits h → IsHall h s → length out ≡ lengthOf (chutes h) .length
     → (writeRefusal (chutes h) (length out) ≡ done) × ((c : ℕ) → hallLookupOf s c ≡ lookupOf (writtenOf (chutes h) out) c)
 of-flat h s out a i n =
     let ok = round-trip .accepts (chutes h) (a .few-chutes) (chutes-fit h (a .fits)) in
     let written : writeRefusal (chutes h) (length out) ≡ done = rw n (round-trip .length-accepted (chutes h) ok) in
     (written, λ c. i .every-chute c ∙ sym (round-trip .reads-back (chutes h) out written .every-chute c))
+
+-- writing, by what reading gives back
+same-written : (outer : ℕ) (kinds values s : List ℕ) (l : List Entry) → hallsOf s ≡ halls outer l → kindsOf l ≡ kinds → valuesOf l ≡ values
+    → Written outer kinds values s
+same-written outer kinds values s l e k v =
+    let w = read-hall s outer l e in
+    record {
+      accepted = w .accepted;
+      same-outer = w .same-outer;
+      same-kinds = ap kindsOf (w .same-entries) ∙ k;
+      same-values = ap valuesOf (w .same-entries) ∙ v;
+    }
+
+of-written : (outer : ℕ) (kinds values out : List ℕ) → hallWriteRefusal outer kinds values (length out) ≡ done
+    → Written outer kinds values (hallWrittenOf outer kinds values out)
+of-written outer kinds values out e =
+    let w = halls-back .reads-back outer kinds values out e in
+    same-written outer kinds values (hallWrittenOf outer kinds values out) (w .entries) (w .is) (w .same-kinds) (w .same-values)
+
+every-length : (h : Hall) → WithinLimits h
+    → hallLengthOf (count h) (kindsOf (listed h)) (valuesOf (listed h)) ≡ lengthWithin (length (writtenHalls (count h) (listed h)))
+unfolding hallLengthOf
+every-length h w = rw (hall-allowed h w, pairs-back (listed h))
 
 -- one hall, by its number of entries and its lists
 entries-same : (l m : List Entry) → kindsOf l ≡ kindsOf m → valuesOf l ≡ valuesOf m → l ≡ m
@@ -158,5 +201,8 @@ hall-theorems =
     record {
       accepted = of-accepted;
       flat-plan = of-flat;
+      reads-back = of-written;
+      every-hall = every-length;
+      length-accepted = halls-back .length-accepted;
       one-hall = λ h k n a b. same-halls h k [] [] n (ap (λ (x : List Entry). x ++ []) (entries-same (listed h) (listed k) a b)) .0;
     }

@@ -3,6 +3,7 @@ use mathlib.Core.Path.{_≡_, refl, sym, ap, _∙_}
 use mathlib.Core.List.{List, [], _∷_, _++_}
 use mathlib.Core.Bool.{Bool, true, false, cond}
 use Prim.Native.Nat.{ℕ, zero, suc, _+_, _≤_, _<_}
+use native.Mathlib.Nat.{max-le}
 use native.Mathlib.Omega.{arith}
 use lib.ListN.{length, length-append}
 use lib.Dec.{ltb}
@@ -17,7 +18,7 @@ use Rattle.hall_entry.specs.Bytes.{valued, judged, byteHead}
 use Rattle.hall_entry.specs.Laws.Heads.{Kind, kind-known}
 use Rattle.hall_entry.specs.Laws.Induction.{AllGood, reads-good, chute-destinations, hall-destinations}
 use Rattle.hall_read.specs.Laws.Kept.{destinations-append}
-use Rattle.hall_theorems.specs.Tree.{Hall, none, chute, inner, count, listed, chutes, larger, levels, Fits}
+use Rattle.hall_theorems.specs.Tree.{Hall, none, chute, inner, count, listed, chutes, levels, Fits}
 
 -- what was read first: a kind that may stand there, and a value that three groups hold
 number-small : (at : ℕ) (s : List ℕ) (v next : ℕ) (rest : List ℕ) (p : Parsed) → Used readsPadded true 2 at s p → p ≡ value v next rest → v ≤ maxNumber
@@ -53,7 +54,7 @@ first-known levels chutes at s k v next rest e = go (planNumber at s) e
     go (value j mid t) q = pick j mid t (kindAllowed levels chutes j) refl q
     go (bad place) q = let z : _≡_ {A = ℕ} 0 1 = cc in absurd (omega arith)
 
-no-destinations : destinations [] ≡ []
+pub no-destinations : destinations [] ≡ []
 unfolding destinations
 no-destinations = refl
 
@@ -65,13 +66,6 @@ listed-chutes (chute d more) = chute-destinations d (listed more) ∙ ap (λ (x 
 listed-chutes (inner h more) =
     hall-destinations hallKind (count h) (listed h ++ listed more) (λ z. omega arith) ∙ destinations-append (listed h) (listed more)
     ∙ rw (listed-chutes h, listed-chutes more)
-
-larger-most : (a b n : ℕ) → a ≤ n → b ≤ n → larger a b ≤ n
-larger-most a b n h k = go (ltb a b)
-  where
-    go : (t : Bool) → cond t b a ≤ n
-    go true = k
-    go false = h
 
 -- n entries l, read where so many levels are left below and so many chutes stand before
 pub record TreeOf (below n before : ℕ) (l : List Entry) : Type 0 where
@@ -124,7 +118,7 @@ good-hall below n at before s k v mid t l past u m next rest e o i g h =
       hall = inner (a .hall) (b .hall);
       is-count = ap suc (b .is-count);
       is-listed = listed-hall (a .hall) (b .hall) k v l m one (a .is-count) (a .is-listed) (b .is-listed);
-      deep = larger-most (suc (levels (a .hall))) (levels (b .hall)) (suc (suc below)) (omega (arith, a .deep)) (b .deep);
+      deep = max-le (omega (arith, a .deep)) (b .deep);
       few = omega (arith, b .few, length-append (chutes (a .hall)) (chutes (b .hall)));
       fits = (omega (arith, a .is-count, f .1), (a .fits, b .fits));
     }

@@ -11,7 +11,10 @@ use Rattle.hall_entry.specs.Entries.{kindsOf, valuesOf}
 use Rattle.hall.specs.Answers.{hallSummaryOf, hallLookupOf}
 use Rattle.hall.specs.declared.HallSummary.{HallSummary}
 use Rattle.hall_lists.specs.Lists.{listsSummary, listsKinds, listsValues}
-use Rattle.hall_theorems.specs.Tree.{Hall, count, listed, chutes, Allowed}
+use Rattle.hall_length.specs.Written.{writtenHalls}
+use Rattle.hall_length.specs.Length.{lengthWithin, hallLengthOf}
+use Rattle.hall_write.specs.Write.{hallWriteRefusal, hallWrittenOf}
+use Rattle.hall_theorems.specs.Tree.{Hall, count, listed, chutes, WithinLimits}
 
 abbrev pub summaryOfHall : Hall → HallSummary
 summaryOfHall h = record { number = done; outer = count h; entries = length (listed h); chutes = length (chutes h) }
@@ -30,14 +33,30 @@ pub record IsHall (h : Hall) (s : List ℕ) : Type 0 where
 pub record Accepted (s : List ℕ) : Type 0 where
   pub hall : Hall
   -- at most 8 levels and 4,096 chutes
-  pub allowed : Allowed hall
+  pub within : WithinLimits hall
   pub is : IsHall hall s
+
+-- the bytes s are the hall of an outermost number of entries and two lists
+pub record Written (outer : ℕ) (kinds values s : List ℕ) : Type 0 where
+  pub accepted : Accepted s
+  pub same-outer : count (accepted .hall) ≡ outer
+  pub same-kinds : kindsOf (listed (accepted .hall)) ≡ kinds
+  pub same-values : valuesOf (listed (accepted .hall)) ≡ values
 
 pub record HallTheorems : Type 0 where
   -- an accepted hall plan is a hall within the limits
   pub accepted : (s : List ℕ) → hallSummaryOf s .number ≡ done → Accepted s
   -- and the flat plan that is written of its destinations in reading order answers every lookup as it does
-  pub flat-plan : (h : Hall) (s out : List ℕ) → Allowed h → IsHall h s → length out ≡ lengthOf (chutes h) .length
+  pub flat-plan : (h : Hall) (s out : List ℕ) → WithinLimits h → IsHall h s → length out ≡ lengthOf (chutes h) .length
       → (writeRefusal (chutes h) (length out) ≡ done) × ((chute : ℕ) → hallLookupOf s chute ≡ lookupOf (writtenOf (chutes h) out) chute)
-  -- its number of entries and its two lists tell one hall from every other
+  -- where writing was accepted, the buffer reads as the same halls: the outermost number, the kinds and the values
+  pub reads-back : (outer : ℕ) (kinds values out : List ℕ) → hallWriteRefusal outer kinds values (length out) ≡ done
+      → Written outer kinds values (hallWrittenOf outer kinds values out)
+  -- every hall within the limits can be written: it has a length, or 5 where its plan would be longer than 65,536 bytes
+  pub every-hall : (h : Hall) → WithinLimits h
+      → hallLengthOf (count h) (kindsOf (listed h)) (valuesOf (listed h)) ≡ lengthWithin (length (writtenHalls (count h) (listed h)))
+  -- and a buffer of the length that was asked for first is accepted
+  pub length-accepted : (outer : ℕ) (kinds values : List ℕ) → hallLengthOf outer kinds values .number ≡ done
+      → hallWriteRefusal outer kinds values (hallLengthOf outer kinds values .length) ≡ done
+  -- a hall's number of entries and its two lists tell one hall from every other
   pub one-hall : (h k : Hall) → count h ≡ count k → kindsOf (listed h) ≡ kindsOf (listed k) → valuesOf (listed h) ≡ valuesOf (listed k) → h ≡ k

@@ -1,9 +1,7 @@
 -- A hall as it stands in a building (docs/RULES.md, 'Hall plan'): its entries one after another, each a chute with its destination or again a hall. Bytes and
 -- readers play no part here.
-use Prim.Native.Nat.{ℕ, zero, suc, _≤_}
+use Prim.Native.Nat.{ℕ, suc, _≤_, max}
 use mathlib.Core.List.{List, [], _∷_, _++_}
-use mathlib.Core.Bool.{cond}
-use lib.Dec.{ltb}
 use lib.ListN.{length}
 use Rattle.leb128.specs.Number.{maxNumber}
 use Rattle.hall_entry.specs.Limits.{maxChutes, maxLevels}
@@ -34,13 +32,10 @@ chutes (chute d more) = d ∷ chutes more
 chutes (inner h more) = chutes h ++ chutes more
 
 -- its levels: itself, and those of the halls in it
-abbrev pub larger : ℕ → ℕ → ℕ
-larger a b = cond (ltb a b) b a
-
 unfoldable pub levels : Hall → ℕ
 levels none = 1
 levels (chute d more) = levels more
-levels (inner h more) = larger (suc (levels h)) (levels more)
+levels (inner h more) = max (suc (levels h)) (levels more)
 
 -- three groups hold each destination, and the number of entries of each hall in it
 unfoldable pub Fits : Hall → Type 0
@@ -49,7 +44,7 @@ Fits (chute d more) = (d ≤ maxNumber) × Fits more
 Fits (inner h more) = (count h ≤ maxNumber) × (Fits h × Fits more)
 
 -- what a hall plan may hold
-pub record Allowed (h : Hall) : Type 0 where
+pub record WithinLimits (h : Hall) : Type 0 where
   pub eight-levels : levels h ≤ maxLevels
   pub few-chutes : length (chutes h) ≤ maxChutes
   pub outer-fits : count h ≤ maxNumber
