@@ -1,4 +1,6 @@
-/* Hall plans on both sides of their limits: eight levels, 4,096 chutes, 65,536 bytes, and the most entries that such a plan has. */
+/* Hall plans on both sides of their limits: eight levels, 4,096 chutes, 65,536 bytes, the most entries that such a plan has, and the greatest number. */
+#include <stdlib.h>
+
 #include "check.h"
 
 enum { LONGEST = 65536, MOST_ENTRIES = 32767, CANARY = 0xA5 };
@@ -122,9 +124,29 @@ static void most_entries(void) {
     EXPECT(left == 0 && entries == MOST_ENTRIES + 1 && length == LONGEST + 1 && all_answer(127, 0, 5, 5));
 }
 
+/* Empty halls, 2,097,151 of them and one more, on the outermost level and in a hall: no number is greater, so one more is a breach, and not only too long. */
+static void greatest_number(void) {
+    size_t most = HF_MAX_DESTINATION;
+    uint8_t *k = malloc(most + 2);
+    uint32_t *v = calloc(most + 2, sizeof *v);
+    EXPECT(k != NULL && v != NULL);
+    if (k != NULL && v != NULL) {
+        memset(k, HF_HALL, most + 2);
+        for (size_t more = 0; more < 2; more++) {
+            v[0] = 0;
+            EXPECT(hf_hall_length(most + more, k, most + more, v, most + more).number == (more == 0 ? 5 : 9));
+            v[0] = (uint32_t)(most + more);
+            EXPECT(hf_hall_length(1, k, most + more + 1, v, most + more + 1).number == (more == 0 ? 5 : 9));
+        }
+    }
+    free(k);
+    free(v);
+}
+
 void check_hall_limits(void) {
     levels();
     chutes();
     bytes();
     most_entries();
+    greatest_number();
 }
