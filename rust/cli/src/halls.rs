@@ -66,7 +66,7 @@ impl Listing for Listed {
             return Err(format!("it has to be indented by spaces alone, {INDENTATION} for each level"));
         }
         if spaces % INDENTATION != 0 {
-            return Err(format!("it is indented by {spaces} spaces, and each level takes {INDENTATION}"));
+            return Err(format!("it is indented by an odd number of spaces, and each level takes {INDENTATION}"));
         }
         if spaces > most {
             return Err(format!(
