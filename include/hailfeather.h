@@ -1,10 +1,10 @@
 /* Hailfeather: Keccak-p[1600, 24], cSHAKE256, KMAC256 and KMACXOF256 in one call, the first and the last also in running sessions, sealing and opening by the
- * KMAC AEAD, the cSHAKE generator, and chute plans. Link with libhailfeather.a (x86-64), which needs nothing but the C library's memory functions.
+ * KMAC AEAD, the cSHAKE generator, chute plans and hall plans. Link with libhailfeather.a (x86-64), which needs nothing but the C library's memory functions.
  *
- * Pointers. Every pointer to bytes or rows is followed by the number of its elements. No pointer may be null, also where there are no elements: lend
- * HF_NOTHING, or any other pointer that is not null, with the length 0. Compilers that know the attribute warn of a null pointer. Bytes need no alignment; rows
- * and lanes are aligned as their types ask. A buffer that a function writes must not overlap any other buffer of the same call, so nothing is sealed, opened or
- * hashed in place; buffers that are only read may overlap. No pointer is kept after a call.
+ * Pointers. Every pointer to bytes, rows or values is followed by the number of its elements. No pointer may be null, also where there are no elements: lend
+ * HF_NOTHING, or any other pointer that is not null, with the length 0. Compilers that know the attribute warn of a null pointer. Bytes need no alignment;
+ * rows, values and lanes are aligned as their types ask. A buffer that a function writes must not overlap any other buffer of the same call, so nothing is
+ * sealed, opened or hashed in place; buffers that are only read may overlap. No pointer is kept after a call.
  *
  * State. Nothing is kept between calls and no memory is asked for but at most 4 KiB of stack, so any thread may call at any time. A session and a generator
  * are plain values: pass one in, and put the one that is handed back in its place. A copy is a second session or generator that goes on from the same point,
@@ -17,17 +17,18 @@
  *    2  a KMAC256 or KMACXOF256 key is longer than 4,096 bytes; or a sealing key is not 32 bytes
  *    3  a name, a customisation or an IV is longer than 4,096 bytes; or an additional input or a personalisation is longer than 84
  *    4  cSHAKE256 was asked for with a name of exactly the four bytes KMAC, which belongs to the standard's own function
- *    5  a message (in a session the total so far, with this piece), or text and label together, is longer than 16,777,216 bytes; or a seed or a plan to
- *       be read is longer than 65,536
+ *    5  a message (in a session the total so far, with this piece), or text and label together, is longer than 16,777,216 bytes; or a seed, a plan to
+ *       be read, or the buffer or the length of a hall plan to be written is longer than 65,536
  *    6  an output (in a session the total so far, with this one) is longer than 16,777,216 bytes; or KMAC256 was asked for no bytes; or the output of
  *       sealing or opening is not as long as the text; or a session that could not start was asked for one byte or more
  *    7  a tag is shorter than 16 bytes or longer than 64
  *    8  the tag does not match
- *    9  the plan is malformed; or rows to be written break the plan's rules or do not fill the lent buffer exactly
+ *    9  the plan is malformed; or rows or halls to be written break the plan's rules or do not fill the lent buffer exactly; or the lists that halls are
+ *       to be read into are not exactly as long as there are entries
  *   10  the plan has no such chute
- * On a refusal every lent buffer is as it was before, a session or a generator is handed back as it was passed in, and a count, a destination, a length and
- * a number of rows are 0. So a return value may be put in place of the old one whatever its number is. Two exceptions: a session that could not start
- * is handed back giving, with nothing to give; and a walk that is asked past the last row keeps its place.
+ * On a refusal every lent buffer and list is as it was before, a session or a generator is handed back as it was passed in, and a count, a destination, a
+ * length and a number of rows, entries or chutes are 0. So a return value may be put in place of the old one whatever its number is. Two exceptions: a session
+ * that could not start is handed back giving, with nothing to give; and a walk that is asked past the last row keeps its place.
  *
  * Time. Of this archive, on an x86-64 processor, tests/secrets found no branch and no address that depends on a key, a text, a seed or a state, but the one
  * branch of hf_open on whether the tag matches, which it answers. Nothing of that is proved, and another compiler or processor may differ.
@@ -87,9 +88,11 @@ enum hf_number {
 #define HF_MAX_SEED 65536
 #define HF_MAX_PERSONALISATION 84
 #define HF_MAX_ADDITIONAL 84
-#define HF_MAX_PLAN 65536           /* a plan to be read */
+#define HF_MAX_PLAN 65536           /* a plan to be read; a hall plan to be written */
 #define HF_MAX_ROWS 4096            /* rows */
-#define HF_MAX_DESTINATION 2097151u /* the greatest destination */
+#define HF_MAX_CHUTES 4096          /* chutes of a hall plan, in all its halls */
+#define HF_MAX_LEVELS 8             /* levels of a hall plan, of which the outermost is the first */
+#define HF_MAX_DESTINATION 2097151u /* the greatest destination; the greatest number of entries of a hall */
 
 /* ---- Keccak-p, cSHAKE256, KMAC256, KMACXOF256 in one call (FIPS 202, SP 800-185) ---- */
 typedef struct {
@@ -249,6 +252,47 @@ uint8_t hf_plan_write(const uint32_t *rows, size_t rows_length, uint8_t *out, si
 hf_cursor hf_plan_start(const uint8_t *plan, size_t plan_length) HF_NONNULL;
 /* The next row. Refuses with 5, 9, 10: at every ask with the number that hf_plan_start gave, or past the last row with 10. */
 hf_walk hf_plan_step(const uint8_t *plan, size_t plan_length, hf_cursor walk) HF_NONNULL;
+
+/* ---- Hall plans ----
+ * A hall plan is a number of entries, then the entries, then nothing more. An entry is a chute, which is the number 0 and a destination, or a hall, which is
+ * the number 1, again a number of entries, and those entries. Numbers stand as in chute plans. The whole is level 1, a hall among its entries level 2, a hall
+ * in that one level 3, and so on to at most 8; a hall may have no entries, and is a level all the same. There are at most 4,096 chutes in all, which count from
+ * 1 in reading order through all halls.
+ *
+ * Outside its bytes a hall plan is its outermost number of entries and two lists of equal length, with an element for each entry in reading order, so that a
+ * hall's entries follow the hall at once: kinds has whether it is a chute or a hall, values its destination or its hall's number of entries.
+ * The hall plan 02 01 02 00 07 00 AC 02 00 00 is a hall of two chutes, and a chute, with destinations 7, 300 and 0: outer is 2, kinds are 1, 0, 0, 0, and
+ * values are 2, 7, 300, 0. Every function reads its plan, or its lists, whole, so what is bad anywhere is refused. */
+typedef struct {
+    size_t entries;  /* of all halls: so long are the lists, at most 32,767; 0 on a refusal */
+    uint32_t outer;  /* the outermost number of entries; 0 on a refusal */
+    uint32_t chutes; /* of all halls; 0 on a refusal */
+    uint8_t number;
+} hf_halls;
+
+/* What an entry is. */
+enum hf_kind { HF_CHUTE = 0, HF_HALL = 1 };
+
+/* How many entries and chutes a hall plan has. Refuses with 5, 9. */
+hf_halls hf_hall_read(const uint8_t *plan, size_t plan_length) HF_NONNULL;
+
+/* The destination of one chute. Refuses with 5, 9, 10: the last where chute is 0 or greater than this plan's number of chutes. */
+hf_destination hf_hall_destination(const uint8_t *plan, size_t plan_length, uint64_t chute) HF_NONNULL;
+
+/* Reads a hall plan into two lists, each of which must have exactly as many elements as hf_hall_read answers entries. Answers what that does. Refuses with
+   5, 9. */
+hf_halls hf_hall_read_into(const uint8_t *plan, size_t plan_length, uint8_t *kinds, size_t kinds_length, uint32_t *values,
+                           size_t values_length) HF_NONNULL;
+
+/* How many bytes the plan with these halls takes. Refuses with 5, 9: the first where the halls keep the rules and only their plan is too long, the last also
+   where the lists are of unequal length, or hold fewer or more entries than outer and the halls promise. outer has 64 bits so that no number that a program
+   has is cut to a good one. */
+hf_length hf_hall_length(uint64_t outer, const uint8_t *kinds, size_t kinds_length, const uint32_t *values, size_t values_length) HF_NONNULL;
+
+/* Writes the plan with these halls, each number in the fewest groups, into out, which must have exactly the length that hf_hall_length answers. Answers the
+   number alone. Refuses with 5, 9: the first where out is longer than any plan, whatever the lists are. */
+uint8_t hf_hall_write(uint64_t outer, const uint8_t *kinds, size_t kinds_length, const uint32_t *values, size_t values_length, uint8_t *out,
+                      size_t out_length) HF_NONNULL;
 
 #ifdef __cplusplus
 }

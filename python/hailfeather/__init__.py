@@ -1,5 +1,5 @@
 """Hailfeather from Python: Keccak-p[1600, 24], cSHAKE256, KMAC256 and KMACXOF256, running sessions, sealing and opening, the cSHAKE generator,
-and chute plans (the submodule `plan`), all by the proved library.
+chute plans and hall plans (the submodules `plan` and `hall`), all by the proved library.
 
 A call that the library refuses raises Refusal, a ValueError with the number and its words. Bytes may be bytes, a bytearray or a memoryview; none
 may be changed by another thread while a call reads it.
@@ -14,7 +14,7 @@ How long a call takes is not promised to be independent of secrets, and no rando
 The shared object is the one that the environment variable HAILFEATHER_LIBRARY names; else it is made from the repository's static library.
 """
 
-from . import plan
+from . import hall, plan
 from .generator import Generator
 from .hashes import cshake256, keccak_p, kmac256, kmacxof256
 from .lending import Output
@@ -29,6 +29,7 @@ __all__ = [
     "Sealed",
     "Session",
     "cshake256",
+    "hall",
     "keccak_p",
     "kmac256",
     "kmacxof256",

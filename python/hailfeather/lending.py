@@ -57,7 +57,7 @@ def room_for(length: int, limit: int = OUTPUT_LIMIT) -> "Array[c_uint8]":
 
 
 def number_of(name: str, number: int, largest: int) -> int:
-    """A chute or a destination; one beyond its C type counts as the largest of that, which no plan has either."""
+    """A chute, a destination, or a kind or a number of entries; one beyond its C type counts as the largest of that, which no plan has either."""
     number = index(number)
     if number < 0:
         raise ValueError(f"{name} is negative: {number}")

@@ -7,6 +7,7 @@ from . import shared_object, structs
 BYTES = POINTER(c_uint8)
 LENT = [BYTES, c_size_t]  # a pointer to bytes, followed by their number
 DESTINATIONS = [POINTER(c_uint32), c_size_t]
+HALLS = [*LENT, POINTER(c_uint32), c_size_t]  # kinds and values
 VERSION = 100  # HF_VERSION of include/hailfeather.h, 0.1.0
 
 FUNCTIONS = {
@@ -31,6 +32,11 @@ FUNCTIONS = {
     "hf_plan_write": (c_uint8, [*DESTINATIONS, *LENT]),
     "hf_plan_start": (structs.Cursor, LENT),
     "hf_plan_step": (structs.Walk, [*LENT, structs.Cursor]),
+    "hf_hall_read": (structs.HallSummary, LENT),
+    "hf_hall_destination": (structs.Destination, [*LENT, c_uint64]),
+    "hf_hall_read_into": (structs.HallSummary, [*LENT, *HALLS]),
+    "hf_hall_length": (structs.Length, [c_uint64, *HALLS]),
+    "hf_hall_write": (c_uint8, [c_uint64, *HALLS, *LENT]),
 }
 
 

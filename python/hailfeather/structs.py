@@ -76,3 +76,9 @@ class Walk(Structure):
     """hf_walk"""
 
     _fields_ = [("next", c_size_t), ("destination", c_uint32), ("number", c_uint8)]
+
+
+class HallSummary(Structure):
+    """hf_halls"""
+
+    _fields_ = [("entries", c_size_t), ("outer", c_uint32), ("chutes", c_uint32), ("number", c_uint8)]

@@ -39,6 +39,8 @@ void check_sessions(void);
 void check_seals(void);
 void check_generator(void);
 void check_plans(void);
+void check_halls(void);
+void check_hall_limits(void);
 void check_stack(void);
 
 #endif

@@ -58,6 +58,9 @@ int main(int count, char **words) {
     report("the generator");
     check_plans();
     report("chute plans");
+    check_halls();
+    check_hall_limits();
+    report("hall plans");
     check_stack();
     report("use of the stack");
     printf("%d checks, %d failed\n", checked, failed);

@@ -8,6 +8,11 @@
 enum { STACK = 1 << 18, CANARY = 0xA5, MOST_STACK = 4096 };
 static const uint8_t plan[] = {0x03, 0x07, 0xAC, 0x02, 0x00};
 static const uint32_t rows[] = {7, 300, 0};
+/* eight levels, the deepest there are, with a chute in the innermost hall */
+static const uint8_t halls[] = {1, 1, 1, 1, 1, 1, 1, 1, 1, 1, 1, 1, 1, 1, 1, 0, 7}, kinds[] = {1, 1, 1, 1, 1, 1, 1, 0};
+static const uint32_t values[] = {1, 1, 1, 1, 1, 1, 1, 7};
+static uint8_t read_kinds[8];
+static uint32_t read_values[8];
 static uint8_t key[32], text[300], label[84], out[300], tag[64], opened[300];
 static uint64_t lanes[25];
 static uint8_t number; /* of the call that ran last */
@@ -28,6 +33,11 @@ static void looking(void) { number = hf_plan_row(plan, sizeof plan, plan, sizeof
 static void measuring(void) { number = hf_plan_length(rows, 3).number; }
 static void writing(void) { number = hf_plan_write(rows, 3, out, sizeof plan); }
 static void walking(void) { number = hf_plan_step(plan, sizeof plan, hf_plan_start(plan, sizeof plan)).number; }
+static void reading_halls(void) { number = hf_hall_read(halls, sizeof halls).number; }
+static void asking_halls(void) { number = hf_hall_destination(halls, sizeof halls, 1).number; }
+static void reading_into(void) { number = hf_hall_read_into(halls, sizeof halls, read_kinds, 8, read_values, 8).number; }
+static void measuring_halls(void) { number = hf_hall_length(1, kinds, 8, values, 8).number; }
+static void writing_halls(void) { number = hf_hall_write(1, kinds, 8, values, 8, out, sizeof halls); }
 
 /* The bytes of the stack that this work leaves changed. */
 static size_t touched(uint8_t *stack, void (*work)(void)) {
@@ -49,8 +59,9 @@ void check_stack(void) {
     return; /* the sanitizer's own frames are larger */
 #endif
     /* sealing comes before opening, which opens what it made */
-    static void (*const works[])(void) = {permuting, cshake, kmac,   kmacxof, naming,  stepping,  sealing, opening,
-                                          drawing,   reading, asking, looking, measuring, writing, walking};
+    static void (*const works[])(void) = {permuting, cshake,        kmac,         kmacxof,      naming,          stepping,     sealing,
+                                          opening,   drawing,       reading,      asking,       looking,         measuring,    writing,
+                                          walking,   reading_halls, asking_halls, reading_into, measuring_halls, writing_halls};
     uint8_t *stack = aligned_alloc(4096, STACK);
     EXPECT(stack != NULL);
     if (stack == NULL) return;

@@ -15,6 +15,9 @@ fails 64 'a command is missing'
 fails 64 'no command polish' polish
 fails 64 'report, lookup or write' plan
 fails 64 'report, lookup or write' plan polish
+fails 64 'hall has to be followed by report, lookup or write' hall
+fails 64 'hall has to be followed by report, lookup or write' hall polish
+fails 64 'no command halls' halls report
 fails 64 'no option --rows' plan report --rows plan
 that 'no hint at the help' grep -q '^hailfeather: hailfeather plan report --help says more$' err
 fails 64 '--key-file FILE or --key-hex-file FILE is missing' seal --iv x plan
@@ -53,9 +56,11 @@ refuses open 8 open --key-file key --iv 'depot 8' sealed -o old
 refuses seal 7 seal --key-file key --iv x --tag-length 15 plan -o old
 refuses seal 7 seal --key-file key --iv x --tag-length 15 --tag-file tag plan -o old
 refuses plan_length 9 plan write -o old < <(echo 2097152)
+refuses hall_length 9 hall write -o old < <(echo 2097152)
 refuses kmac256 6 kmac --key-file key --length 0 plan -o old
 refuses draw 6 draw --seed-file key --length 99999999999 -o old
 fails 65 'line 1' plan write -o old < <(echo x)
+fails 65 'line 1' hall write -o old < <(echo x)
 fails 74 missing cshake missing -o old
 run open --key-file key --iv 'depot 8' sealed -o never
 rm -f out err said
@@ -116,6 +121,8 @@ left() {
   that "$2 bytes are not left by: ${*:3}" test "$(bytes "$1" >long; { hailfeather "${@:3}" 2>/dev/null || true; wc -c; } <long)" = "$2"
 }
 left 70000 $((70000 - 65537)) plan report
+left 70000 $((70000 - 65537)) hall report
+left 70000 $((70000 - 65537)) hall lookup 1
 left $((most + 70000)) $((70000 - 1)) cshake
 left $((most + 70000)) $((70000 - 1)) kmac --key-file key
 left $((most + 70000)) $((70000 - 1)) seal --key-file key --iv x
@@ -134,7 +141,7 @@ mode() {
   that "mode $(stat -c %a moded), not $1, after $2, of: ${*:3}" test "$(stat -c %a moded)" = "$1"
   that "a file was not replaced by: ${*:3}" test "$(cmp moded key >same 2>&1; echo $?)" = 1
 }
-for arguments in 'seal --key-file key --iv x plan' 'plan write' 'cshake --raw plan' 'cshake plan' 'kmac --key-file key' \
+for arguments in 'seal --key-file key --iv x plan' 'plan write' 'hall write' 'cshake --raw plan' 'cshake plan' 'kmac --key-file key' \
   'kmac --key-file key --hex'; do
   mode 640 - $arguments
   for before in 600 644 666 755 400; do
@@ -164,8 +171,8 @@ closed() {
 to_full() { hailfeather "$@" >/dev/full; }
 to_head() { hailfeather "$@" | head -c 1 >/dev/null; }
 without_error() { hailfeather "$@" 2>&-; }
-for arguments in 'plan report plan' 'plan lookup 2 plan' 'plan write report' 'cshake plan' 'cshake --raw' 'draw --seed-file key --length 9' --help \
-  'seal --help'; do
+for arguments in 'plan report plan' 'plan lookup 2 plan' 'plan write report' 'hall report halls' 'hall lookup 2 halls' 'hall write halls.txt' 'cshake plan' \
+  'cshake --raw' 'draw --seed-file key --length 9' --help 'seal --help'; do
   closed 74 to_full $arguments
   that 'the system says nothing' grep -q 'standard output: No space' err
 done
@@ -179,12 +186,12 @@ closed 64 without_error
 
 # raw bytes are not written to a terminal; digits and text are
 terminal() { python3 -c 'import os, pty, sys; sys.exit(os.waitstatus_to_exitcode(pty.spawn(sys.argv[1:])))' hailfeather "$@" >out; }
-for arguments in 'plan write report' 'seal --key-file key --iv x plan' 'open --key-file key --iv x sealed' 'cshake --raw plan' \
+for arguments in 'plan write report' 'hall write halls.txt' 'seal --key-file key --iv x plan' 'open --key-file key --iv x sealed' 'cshake --raw plan' \
   'kmac --raw --key-file key plan' 'draw --seed-file key --length 9' 'draw --seed-file key --length 9 --raw -o -'; do
   closed 64 terminal $arguments
   that 'no advice about the terminal' grep -q 'not written to a terminal: give -o FILE' out
 done
-for arguments in 'plan report plan' 'cshake plan' 'kmac --hex --key-file key plan' 'draw --seed-file key --length 9 --hex' \
-  'plan write report -o made'; do
+for arguments in 'plan report plan' 'hall report halls' 'cshake plan' 'kmac --hex --key-file key plan' 'draw --seed-file key --length 9 --hex' \
+  'plan write report -o made' 'hall write halls.txt -o made'; do
   closed 0 terminal $arguments
 done

@@ -26,7 +26,7 @@ that 'wrong version' grep -qx 'hailfeather [0-9]*\.[0-9]*\.[0-9]*' out
 for word in --help -h; do
   run $word
   that "status $status of $word" test "$status" = 0 -a ! -s err
-  for command in 'plan report' 'plan lookup' 'plan write' seal open cshake kmac draw; do
+  for command in 'plan report' 'plan lookup' 'plan write' 'hall report' 'hall lookup' 'hall write' seal open cshake kmac draw; do
     that "$word does not tell of $command" grep -q "^    $command  *[a-z]" out
   done
 done
@@ -44,8 +44,10 @@ refused_in_example() {
 }
 refused_in_example 9 's/7\\n/2097152\\n/' plan.sealed
 refused_in_example 8 "/open/s/plan 1/plan 2/" opened.plan
-run plan --help
-that 'plan --help has not all of its commands' test "$status" = 0 -a "$(grep -c '^Usage:' out)" = 3
+for group in plan hall; do
+  run $group --help
+  that "$group --help has not all of its commands" test "$status" = 0 -a "$(grep -c "^    hailfeather $group .*\[.*\]$" out)" = 3
+done
 
 while IFS=: read -r command entries; do
   run $command --help
@@ -62,6 +64,9 @@ done <<'COMMANDS'
 plan report:plan_start=5 plan_start=9
 plan lookup:plan_destination=5 plan_destination=9 plan_destination=10 plan_row=5 plan_row=9 plan_row=10
 plan write:plan_length=9
+hall report:hall_read=5 hall_read=9
+hall lookup:hall_destination=5 hall_destination=9 hall_destination=10
+hall write:hall_length=5 hall_length=9
 seal:seal=2 seal=3 seal=5 seal=7
 open:open=2 open=3 open=5 open=7 open=8
 cshake:session_cshake256=3 session_cshake256=4 take=5 give=6

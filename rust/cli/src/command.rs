@@ -3,7 +3,7 @@
 use crate::args::{self, Arguments};
 use crate::failure::Failure;
 use crate::options::Choice;
-use crate::{draw, hash, help, output, plan, seal};
+use crate::{draw, hall, hash, help, output, plan, seal};
 use std::ffi::OsString;
 
 pub struct Command {
@@ -25,6 +25,9 @@ pub const COMMANDS: &[&Command] = &[
     &plan::REPORT,
     &plan::LOOKUP,
     &plan::WRITE,
+    &hall::REPORT,
+    &hall::LOOKUP,
+    &hall::WRITE,
     &seal::SEAL,
     &seal::OPEN,
     &hash::CSHAKE,
@@ -56,9 +59,9 @@ fn other(words: &[OsString]) -> Result<(), Failure> {
     match known[..] {
         [Some("--help" | "-h"), ..] => output::text(&help::general()),
         [Some("--version"), ..] => output::text(concat!("hailfeather ", env!("CARGO_PKG_VERSION"), "\n")),
-        [Some("plan"), Some("--help" | "-h"), ..] => output::text(&help::group("plan ")),
+        [Some(group @ ("plan" | "hall")), Some("--help" | "-h"), ..] => output::text(&help::group(group)),
         [] => Err(Failure::Usage("a command is missing".to_string())),
-        [Some("plan"), ..] => Err(Failure::Usage("plan has to be followed by report, lookup or write".to_string())),
+        [Some(group @ ("plan" | "hall")), ..] => Err(Failure::Usage(format!("{group} has to be followed by report, lookup or write"))),
         _ => Err(Failure::Usage(format!(
             "there is no command {}",
             words[0].to_string_lossy().escape_debug()

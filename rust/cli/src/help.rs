@@ -4,7 +4,7 @@ use crate::command::{Command, COMMANDS};
 use crate::options::Choice;
 use hailfeather::Refusal;
 
-const ABOUT: &str = "hailfeather: chute plans, sealing, cSHAKE256, KMAC256 and the cSHAKE generator, proved
+const ABOUT: &str = "hailfeather: chute plans, hall plans, sealing, cSHAKE256, KMAC256 and the cSHAKE generator, proved
 
 Usage:
     hailfeather COMMAND [OPTIONS] [FILE]
@@ -50,11 +50,11 @@ pub fn general() -> String {
     format!("{ABOUT}\nCommands:\n{commands}\n{EXAMPLE}\n{RULES}")
 }
 
-/// The help of all commands whose names begin alike.
-pub fn group(beginning: &str) -> String {
+/// The help of all commands with the same first word.
+pub fn group(word: &str) -> String {
     let helps: Vec<String> = COMMANDS
         .iter()
-        .filter(|command| command.name.starts_with(beginning))
+        .filter(|command| command.name.split(' ').next() == Some(word))
         .map(|command| of(command))
         .collect();
     helps.join("\n\n")

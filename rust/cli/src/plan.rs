@@ -4,9 +4,10 @@ use crate::args::{self, Arguments};
 use crate::command::Command;
 use crate::failure::Failure;
 use crate::input::{self, Secret};
+use crate::lines;
 use crate::options::{optional, output, Kind};
 use crate::output::{self, Access, Content};
-use crate::rows;
+use crate::rows::Rows;
 use crate::target::Target;
 use hailfeather::{limits, plan};
 use std::ffi::OsStr;
@@ -103,6 +104,6 @@ fn lookup(arguments: &Arguments) -> Result<(), Failure> {
 
 fn write(arguments: &Arguments) -> Result<(), Failure> {
     let target = Target::of(arguments, true)?;
-    let destinations = rows::read(input::operand(arguments, 0))?;
+    let Rows(destinations) = lines::read(input::operand(arguments, 0))?;
     output::write(&[(&target, Content::Raw(&plan::to_vec(&destinations)?))], Access::Usual)
 }

@@ -1,6 +1,9 @@
 //! `include/hailfeather.h` in Rust: its structs and functions under their names there, and their layout in C.
 #![allow(non_camel_case_types)]
 
+mod plans;
+
+pub use plans::*;
 use std::mem::{offset_of, size_of};
 
 /// HF_VERSION of the header: 0.1.0.
@@ -43,46 +46,6 @@ pub struct hf_generator {
 pub struct hf_draw {
     pub generator: hf_generator,
     pub runs: usize,
-    pub number: u8,
-}
-
-#[repr(C)]
-pub struct hf_rows {
-    pub rows: u32,
-    pub number: u8,
-}
-
-#[repr(C)]
-pub struct hf_destination {
-    pub destination: u32,
-    pub number: u8,
-}
-
-#[repr(C)]
-pub struct hf_row {
-    pub start: usize,
-    pub length: usize,
-    pub source: u8,
-    pub number: u8,
-}
-
-#[repr(C)]
-pub struct hf_length {
-    pub length: usize,
-    pub number: u8,
-}
-
-#[derive(Clone, Copy, Debug)]
-#[repr(C)]
-pub struct hf_cursor {
-    pub at: usize,
-    pub number: u8,
-}
-
-#[repr(C)]
-pub struct hf_walk {
-    pub next: usize,
-    pub destination: u32,
     pub number: u8,
 }
 
@@ -164,14 +127,6 @@ extern "C" {
         personalisation_length: usize,
     ) -> hf_draw;
     pub fn hf_generator_draw(generator: hf_generator, additional: *const u8, additional_length: usize, out: *mut u8, out_length: usize) -> hf_draw;
-
-    pub fn hf_plan_read(plan: *const u8, plan_length: usize) -> hf_rows;
-    pub fn hf_plan_destination(plan: *const u8, plan_length: usize, chute: u64) -> hf_destination;
-    pub fn hf_plan_row(site: *const u8, site_length: usize, house: *const u8, house_length: usize, chute: u64) -> hf_row;
-    pub fn hf_plan_length(rows: *const u32, rows_length: usize) -> hf_length;
-    pub fn hf_plan_write(rows: *const u32, rows_length: usize, out: *mut u8, out_length: usize) -> u8;
-    pub fn hf_plan_start(plan: *const u8, plan_length: usize) -> hf_cursor;
-    pub fn hf_plan_step(plan: *const u8, plan_length: usize, walk: hf_cursor) -> hf_walk;
 }
 
 /// Puts `with` in place of a secret by a volatile write, which is made even though the secret is never read again.
@@ -187,10 +142,4 @@ const _: () = {
     assert!(size_of::<hf_step>() == 248 && offset_of!(hf_step, number) == 240);
     assert!(size_of::<hf_generator>() == 65 && offset_of!(hf_generator, seeded) == 64);
     assert!(size_of::<hf_draw>() == 88 && offset_of!(hf_draw, runs) == 72 && offset_of!(hf_draw, number) == 80);
-    assert!(size_of::<hf_rows>() == 8 && offset_of!(hf_rows, number) == 4);
-    assert!(size_of::<hf_destination>() == 8 && offset_of!(hf_destination, number) == 4);
-    assert!(size_of::<hf_row>() == 24 && offset_of!(hf_row, source) == 16 && offset_of!(hf_row, number) == 17);
-    assert!(size_of::<hf_length>() == 16 && offset_of!(hf_length, number) == 8);
-    assert!(size_of::<hf_cursor>() == 16 && offset_of!(hf_cursor, number) == 8);
-    assert!(size_of::<hf_walk>() == 16 && offset_of!(hf_walk, destination) == 8 && offset_of!(hf_walk, number) == 12);
 };

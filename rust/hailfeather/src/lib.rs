@@ -1,9 +1,10 @@
-//! Hailfeather for Rust: cSHAKE256, KMAC256 and KMACXOF256 in one call and in sessions, sealing and opening, a generator, and chute plans.
+//! Hailfeather for Rust: cSHAKE256, KMAC256 and KMACXOF256 in one call and in sessions, sealing and opening, a generator, chute plans and
+//! hall plans.
 //!
 //! The work is done by the static library `libhailfeather.a`, in which every function is proved against its contract: for every input, of every
 //! content and length, the answer, the count and the final contents of all lent memory are fixed. This package is the safe way to it from Rust. It
 //! is not itself proved; it lends your slices to the library, and makes a [`Refusal`] of each number but 0. It asks for no memory of its own, but
-//! for [`plan::to_vec`].
+//! for [`plan::to_vec`], [`hall::to_vec`] and [`hall::to_halls`].
 //!
 //! # What to choose
 //!
@@ -16,6 +17,7 @@
 //! | do either of the two above in pieces | [`Session`] | it is a writer and a reader, for [`std::io::copy`] |
 //! | make many secret bytes of a seed | [`Generator`] | each piece of 208 bytes makes a new key, and the old one is gone |
 //! | read, write or ask chute plans | [`plan`] | a plan that is bad anywhere is refused whole |
+//! | the same of plans by hall and line | [`hall`] | chutes stand in halls, which stand in halls, and count through all of them |
 //!
 //! [`keccak_p`] is the permutation below all of them; hardly anyone needs it alone.
 //!
@@ -81,6 +83,7 @@
 
 mod ffi;
 mod generator;
+pub mod hall;
 mod hash;
 pub mod limits;
 pub mod plan;

@@ -12,7 +12,7 @@ pub const STRING: usize = 4_096;
 pub const SHORT: usize = 84;
 /// The longest seed.
 pub const SEED: usize = 65_536;
-/// The longest plan to be read.
+/// The longest plan to be read, and the longest hall plan to be written.
 pub const PLAN: usize = 65_536;
 /// The length of a sealing key.
 pub const SEALING_KEY: usize = 32;
@@ -20,5 +20,9 @@ pub const SEALING_KEY: usize = 32;
 pub const TAG: RangeInclusive<usize> = 16..=64;
 /// The most rows of a plan.
 pub const ROWS: usize = 4_096;
-/// The greatest destination.
+/// The most chutes of a hall plan, in all its halls.
+pub const CHUTES: usize = 4_096;
+/// The most levels of a hall plan, of which the outermost is the first.
+pub const LEVELS: usize = 8;
+/// The greatest destination, and the greatest number of entries of a hall.
 pub const DESTINATION: u32 = 2_097_151;

@@ -48,7 +48,7 @@ pub enum Reason {
     BadTagLength = 7,
     /// 8: the tag does not match.
     TagMismatch = 8,
-    /// 9: a plan is malformed, or rows cannot be written as one.
+    /// 9: a plan is malformed, rows or halls cannot be written as one, or a buffer or a list has another length than a plan needs.
     MalformedPlan = 9,
     /// 10: the plan has no such chute.
     NoSuchChute = 10,

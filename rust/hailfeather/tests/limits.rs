@@ -1,6 +1,7 @@
 //! The constants of `limits`: what has just that length is accepted, and one more (of the tag's lengths also one less) is refused.
 
-use hailfeather::limits::{DESTINATION, MESSAGE, OUTPUT, PLAN, ROWS, SEALING_KEY, SEED, SHORT, STRING, TAG};
+use hailfeather::hall::{self, Summary, CHUTE, HALL};
+use hailfeather::limits::{CHUTES, DESTINATION, LEVELS, MESSAGE, OUTPUT, PLAN, ROWS, SEALING_KEY, SEED, SHORT, STRING, TAG};
 use hailfeather::plan;
 use hailfeather::{cshake256, kmac256, kmacxof256, open, seal, Generator, Refusal, Session};
 
@@ -70,4 +71,38 @@ fn plans() {
     assert_eq!((longest.len(), plan::rows(&longest)), (12_290, Ok(4_096)));
     assert_eq!(number(plan::length(&[DESTINATION])), 0);
     assert_eq!(number(plan::length(&[DESTINATION + 1])), 9);
+}
+
+/// Halls in one another, the innermost of them empty: with the outermost level so many levels.
+fn levels(count: usize) -> Result<Vec<u8>, Refusal> {
+    let values: Vec<u32> = (2..=count as u32).map(|level| u32::from(level < count as u32)).collect();
+    hall::to_vec(1, &vec![HALL; count - 1], &values)
+}
+
+/// So many empty halls, and a chute with a destination.
+fn halls_and_chute(halls: usize, destination: u32) -> Result<Vec<u8>, Refusal> {
+    let (mut kinds, mut values) = (vec![HALL; halls], vec![0; halls]);
+    kinds.push(CHUTE);
+    values.push(destination);
+    hall::to_vec(halls as u64 + 1, &kinds, &values)
+}
+
+#[test]
+fn hall_plans() {
+    assert_eq!([levels(2), levels(LEVELS), levels(LEVELS + 1)].map(number), [0, 0, 9]);
+    assert_eq!(
+        sides(CHUTES, |kinds| hall::to_vec(kinds.len() as u64, kinds, &vec![DESTINATION; kinds.len()])),
+        [0, 9]
+    );
+    assert_eq!(
+        [DESTINATION, DESTINATION + 1].map(|destination| number(halls_and_chute(0, destination))),
+        [0, 9]
+    );
+    assert_eq!([0, 1].map(|more| number(hall::length((1 << 32) * more, &[], &[]))), [0, 9]);
+    let longest = halls_and_chute(32_765, 128).unwrap();
+    let (outer, entries) = (32_766, 32_766);
+    assert_eq!((longest.len(), hall::read(&longest)), (PLAN, Ok(Summary { outer, entries, chutes: 1 })));
+    assert_eq!(number(halls_and_chute(32_765, 16_384)), 5);
+    assert_eq!(sides(PLAN, hall::read), [9, 5]);
+    assert_eq!(sides(PLAN, |out| hall::write(0, &[], &[], &mut out.to_vec())), [9, 5]);
 }

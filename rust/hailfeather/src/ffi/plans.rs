@@ -1,0 +1,95 @@
+//! The header's parts on chute plans and on hall plans.
+
+use std::mem::{offset_of, size_of};
+
+#[repr(C)]
+pub struct hf_rows {
+    pub rows: u32,
+    pub number: u8,
+}
+
+#[repr(C)]
+pub struct hf_destination {
+    pub destination: u32,
+    pub number: u8,
+}
+
+#[repr(C)]
+pub struct hf_row {
+    pub start: usize,
+    pub length: usize,
+    pub source: u8,
+    pub number: u8,
+}
+
+#[repr(C)]
+pub struct hf_length {
+    pub length: usize,
+    pub number: u8,
+}
+
+#[derive(Clone, Copy, Debug)]
+#[repr(C)]
+pub struct hf_cursor {
+    pub at: usize,
+    pub number: u8,
+}
+
+#[repr(C)]
+pub struct hf_walk {
+    pub next: usize,
+    pub destination: u32,
+    pub number: u8,
+}
+
+#[repr(C)]
+pub struct hf_halls {
+    pub entries: usize,
+    pub outer: u32,
+    pub chutes: u32,
+    pub number: u8,
+}
+
+extern "C" {
+    pub fn hf_plan_read(plan: *const u8, plan_length: usize) -> hf_rows;
+    pub fn hf_plan_destination(plan: *const u8, plan_length: usize, chute: u64) -> hf_destination;
+    pub fn hf_plan_row(site: *const u8, site_length: usize, house: *const u8, house_length: usize, chute: u64) -> hf_row;
+    pub fn hf_plan_length(rows: *const u32, rows_length: usize) -> hf_length;
+    pub fn hf_plan_write(rows: *const u32, rows_length: usize, out: *mut u8, out_length: usize) -> u8;
+    pub fn hf_plan_start(plan: *const u8, plan_length: usize) -> hf_cursor;
+    pub fn hf_plan_step(plan: *const u8, plan_length: usize, walk: hf_cursor) -> hf_walk;
+
+    pub fn hf_hall_read(plan: *const u8, plan_length: usize) -> hf_halls;
+    pub fn hf_hall_destination(plan: *const u8, plan_length: usize, chute: u64) -> hf_destination;
+    pub fn hf_hall_read_into(
+        plan: *const u8,
+        plan_length: usize,
+        kinds: *mut u8,
+        kinds_length: usize,
+        values: *mut u32,
+        values_length: usize,
+    ) -> hf_halls;
+    pub fn hf_hall_length(outer: u64, kinds: *const u8, kinds_length: usize, values: *const u32, values_length: usize) -> hf_length;
+    pub fn hf_hall_write(
+        outer: u64,
+        kinds: *const u8,
+        kinds_length: usize,
+        values: *const u32,
+        values_length: usize,
+        out: *mut u8,
+        out_length: usize,
+    ) -> u8;
+}
+
+// What a C compiler for x86-64 makes of these structs: size, and the place of the last field.
+const _: () = {
+    assert!(size_of::<hf_rows>() == 8 && offset_of!(hf_rows, number) == 4);
+    assert!(size_of::<hf_destination>() == 8 && offset_of!(hf_destination, number) == 4);
+    assert!(size_of::<hf_row>() == 24 && offset_of!(hf_row, source) == 16 && offset_of!(hf_row, number) == 17);
+    assert!(size_of::<hf_length>() == 16 && offset_of!(hf_length, number) == 8);
+    assert!(size_of::<hf_cursor>() == 16 && offset_of!(hf_cursor, number) == 8);
+    assert!(size_of::<hf_walk>() == 16 && offset_of!(hf_walk, destination) == 8 && offset_of!(hf_walk, number) == 12);
+    assert!(
+        size_of::<hf_halls>() == 24 && offset_of!(hf_halls, outer) == 8 && offset_of!(hf_halls, chutes) == 12 && offset_of!(hf_halls, number) == 16
+    );
+};
