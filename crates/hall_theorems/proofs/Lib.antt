@@ -1,3 +1,5 @@
 pub mod Trees
 pub mod Lists
+pub mod OneHall
 pub mod HallTheorems
+pub mod Examples
