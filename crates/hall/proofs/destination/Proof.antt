@@ -20,26 +20,8 @@ found : (c : tie.After-chutes) → let a = start (c .before .before) .args in le
     lookupAnswer (a .chute) (Halls (g .0) (g .1 .0) (g .1 .1 .0) (g .1 .1 .1 .0)) ≡ hallLookupOf (now (a .plan)) (a .chute)
 found c = let w = c .before .before in sym (ap (lookupAnswer (start w .args .chute)) (c .chutes .given .1)) ∙ answered w
 
-read-whole-requires : tie.Need-read-whole-requires
-read-whole-requires c κs = search needs
-
-enum-known-chutes : tie.Need-enum-known-chutes
-enum-known-chutes c = search needs
-
-has-chute-requires : tie.Need-has-chute-requires
-has-chute-requires c κs = search needs
-
 returns : tie.Need-returns
 returns c = let h = c .before in (rw (sym (h .has-chute .ensures) ∙ c .if1 .taken)) ∙ found (h .before .before)
-
-no-destination-requires : tie.Need-no-destination-requires
-no-destination-requires c κs = search needs
-
-enum-known-number : tie.Need-enum-known-number
-enum-known-number c = search needs
-
-no-destination-requires-2 : tie.Need-no-destination-requires-2
-no-destination-requires-2 c κs = search needs
 
 returns-2 : tie.Need-returns-2
 returns-2 c =
@@ -55,13 +37,5 @@ returns-3 c =
 pub destination-spec : {M : Type 1} → statement M
 destination-spec =
     tie.close
-    (tie.spec
-    read-whole-requires
-    enum-known-chutes
-    has-chute-requires
-    returns
-    no-destination-requires
-    enum-known-number
-    no-destination-requires-2
-    returns-2
-    returns-3)
+    (tie.spec (λ c κs. search needs) (λ c. search needs) (λ c κs. search needs) returns (λ c κs. search needs) (λ c. search needs) (λ c κs. search needs)
+    returns-2 returns-3)
