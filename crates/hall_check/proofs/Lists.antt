@@ -12,8 +12,8 @@ use Rattle.hall_entry.specs.Limits.{levelsBelow}
 use Rattle.hall_entry.specs.Entries.{Entry, entry, chuteKind, kindAllowed, Read, reached, breach, entriesOf}
 use Rattle.hall_entry.specs.Answers.{headAnswer}
 use Rattle.hall_entry.specs.declared.EntryRead.the-variants.{Found, NotEntry}
-use Rattle.hall_read.specs.Passing.{moved, passed}
-use Rattle.hall_read.specs.declared.Place.{Place}
+use Rattle.hall_read.specs.Passing.{movedPast, passedOver}
+use Rattle.hall_read.specs.declared.Progress.{Progress}
 use Rattle.hall_read.specs.declared.Pass.{Pass}
 use Rattle.hall_read.specs.declared.Pass.the-variants.{Reached, Breach}
 use Rattle.hall_read.specs.Laws.Kept.{moved-chute}
@@ -47,8 +47,8 @@ module _ (kinds values : List ℕ) (levels chutes at : ℕ) (equal : length kind
     head-kind k = rw (drop-pairs kinds values at equal h, k)
 
 -- past one chute: none is looked for
-pub past-chute : (from : Place) (v next : ℕ)
-    → moved 0 from (entry chuteKind v ∷ []) next ≡ record { at = next; entries = from .entries + 1; chutes = from .chutes + 1; found = from .found }
+pub past-chute : (from : Progress) (v next : ℕ)
+    → movedPast 0 from (entry chuteKind v ∷ []) next ≡ record { at = next; entries = from .entries + 1; chutes = from .chutes + 1; found = from .found }
 past-chute from v next = let n : from .chutes + 1 ≡ 0 → ⊥ = λ q. omega arith in moved-chute 0 from v next ∙ rw (ne-eqb _ _ n)
 
 -- all entries were read, from where the pass came to
@@ -56,7 +56,7 @@ abbrev pub checked : ℕ → Pass → Bool
 checked n (Reached p) = eqb (p .at) n
 checked n (Breach place) = false
 
-all-checked : (l : List Entry) (from : Place) (n at : ℕ) (r : Read Entry) → After l n at r → checked (length l) (passed 0 from r) ≡ allRead r
+all-checked : (l : List Entry) (from : Progress) (n at : ℕ) (r : Read Entry) → After l n at r → checked (length l) (passedOver 0 from r) ≡ allRead r
 all-checked l from n at (reached k next []) a =
     let e : next ≡ length l = omega (arith, ap length (a .left), length-drop next l, a .inside) in
     eq-eqb next (length l) e
@@ -65,7 +65,7 @@ all-checked l from n at (reached k next (x ∷ rest)) a =
     ne-eqb next (length l) o
 all-checked l from n at (breach place) a = refl
 
-abbrev pub startPlace : Place
+abbrev pub startPlace : Progress
 startPlace = record { at = 0; entries = 0; chutes = 0; found = 0 }
 
 -- the rules, by the tests of the code

@@ -1,13 +1,13 @@
 // The checkers of a hall and of an entry, which call each other as the two readers of a hall plan do. The caller has seen that the lists are of equal
-// length, and that the place lies inside them.
+// length, and that the pass stands inside them.
 ghost use mathlib.Core.Path.{_≡_};
 ghost use lib.ListN.{length, drop};
 ghost use Rattle.hall_entry.specs.Answers.{headAnswer};
 ghost use Rattle.hall_check.specs.Lists.{pairs, listHead};
-ghost use Rattle.hall_check.specs.Passing.{hallPassed, entryPassed, ListsPlace};
+ghost use Rattle.hall_check.specs.Passing.{hallPassed, entryPassed, ProgressInLists};
 use hall_entry::EntryRead;
 use hall_read::Pass;
-use hall_read::Place;
+use hall_read::Progress;
 
 fn wide(x: u8) -> u32
     ensures { λ r. ⌜ r ≡ x ⌝ }
@@ -39,26 +39,26 @@ fn list_head(kinds: &[u8], values: &[u32], levels: u32, chutes: u32, at: usize) 
 }
 
 // Passes over the entries of a hall, `count` of them, with so many levels left below it.
-pub fn check_hall(kinds: &[u8], values: &[u32], count: u32, levels: u32, from: Place) -> Pass
-    requires { ⌜ ListsPlace (now kinds) (now values) from ⌝ }
+pub fn check_hall(kinds: &[u8], values: &[u32], count: u32, levels: u32, from: Progress) -> Pass
+    requires { ⌜ ProgressInLists (now kinds) (now values) from ⌝ }
     ensures { λ r. ⌜ r ≡ hallPassed levels count from (now (kinds .entry)) (now (values .entry)) ⌝ }
 {
-    let mut place = from;
+    let mut progress = from;
     let mut i: u32 = 0;
     while i < count {
-        let step = check_entry(kinds, values, levels, place);
+        let step = check_entry(kinds, values, levels, progress);
         let Pass::Reached(next) = step else {
             return step;
         };
         i += 1;
-        place = next;
+        progress = next;
     }
-    Pass::Reached(place)
+    Pass::Reached(progress)
 }
 
 // Passes over one entry, with the hall that it holds.
-fn check_entry(kinds: &[u8], values: &[u32], levels: u32, from: Place) -> Pass
-    requires { ⌜ ListsPlace (now kinds) (now values) from ⌝ }
+fn check_entry(kinds: &[u8], values: &[u32], levels: u32, from: Progress) -> Pass
+    requires { ⌜ ProgressInLists (now kinds) (now values) from ⌝ }
     ensures { λ r. ⌜ r ≡ entryPassed levels from (now (kinds .entry)) (now (values .entry)) ⌝ }
 {
     let at = from.at;
@@ -68,14 +68,14 @@ fn check_entry(kinds: &[u8], values: &[u32], levels: u32, from: Place) -> Pass
     match list_head(kinds, values, levels, chutes, at) {
         EntryRead::Found { kind, value, next } => {
             if kind == hall_entry::CHUTE {
-                return Pass::Reached(Place {
+                return Pass::Reached(Progress {
                     at: next,
                     entries: entries + 1,
                     chutes: chutes + 1,
                     found,
                 });
             }
-            let inner = Place {
+            let inner = Progress {
                 at: next,
                 entries: entries + 1,
                 chutes,

@@ -4,7 +4,7 @@ mod checking; // checking.rt: the checkers of a hall and of an entry, over place
 ghost use mathlib.Core.Path.{_≡_};
 ghost use Rattle.hall_check.specs.Lists.{listsAllowed};
 use hall_read::Pass;
-use hall_read::Place;
+use hall_read::Progress;
 
 // Whether an outermost number of entries and two lists keep the rules: as many kinds as values, and then just the entries that the halls promise.
 pub fn halls_allowed(outer: u64, kinds: &[u8], values: &[u32]) -> bool
@@ -16,7 +16,7 @@ pub fn halls_allowed(outer: u64, kinds: &[u8], values: &[u32]) -> bool
     if (leb128::MAX_NUMBER as u64) < outer {
         return false;
     }
-    let from = Place {
+    let from = Progress {
         at: 0,
         entries: 0,
         chutes: 0,

@@ -12,7 +12,7 @@ use Rattle.leb128.specs.declared.Number.{Number}
 use Rattle.leb128.specs.declared.Number.the-variants.{Value, Bad}
 use Rattle.hall_entry.specs.Entries.{Entry, entry, kindsOf, valuesOf, first, wrong}
 use Rattle.hall_entry.specs.Bytes.{byteHead}
-use Rattle.hall_lists.specs.Flat.{entriesStart, flat, StoresEntries}
+use Rattle.hall_lists.specs.Sequence.{entriesStart, inSequence, StoresEntries}
 
 -- where the entries start, from the outermost number's answer
 abbrev pub startOf : Number → ℕ
@@ -29,22 +29,22 @@ pub record Filling (s : List ℕ) (start : ℕ) (kinds₀ values₀ : List ℕ) 
   pub inside : at ≤ length s
   pub kinds-length : length kinds ≡ length kinds₀
   pub values-length : length values ≡ length values₀
-  pub kinds-left : sets kinds i (kindsOf (flat (count - i) at (drop at s))) ≡ sets kinds₀ 0 (kindsOf (flat (length kinds₀) start (drop start s)))
-  pub values-left : sets values i (valuesOf (flat (count - i) at (drop at s))) ≡ sets values₀ 0 (valuesOf (flat (length kinds₀) start (drop start s)))
+  pub kinds-left : sets kinds i (kindsOf (inSequence (count - i) at (drop at s))) ≡ sets kinds₀ 0 (kindsOf (inSequence (length kinds₀) start (drop start s)))
+  pub values-left : sets values i (valuesOf (inSequence (count - i) at (drop at s))) ≡ sets values₀ 0 (valuesOf (inSequence (length kinds₀) start (drop start s)))
 
 module _ (s : List ℕ) (count i at : ℕ) where
-  flat-more : (k v next : ℕ) → i < count → byteHead 1 0 at (drop at s) ≡ first k v next (drop next s)
-      → flat (count - i) at (drop at s) ≡ entry k v ∷ flat (count - (i + 1)) next (drop next s)
-  unfolding flat
-  flat-more k v next h e = let z : count - i ≡ suc (count - (i + 1)) = omega arith in rw (z, e)
+  sequence-more : (k v next : ℕ) → i < count → byteHead 1 0 at (drop at s) ≡ first k v next (drop next s)
+      → inSequence (count - i) at (drop at s) ≡ entry k v ∷ inSequence (count - (i + 1)) next (drop next s)
+  unfolding inSequence
+  sequence-more k v next h e = let z : count - i ≡ suc (count - (i + 1)) = omega arith in rw (z, e)
 
-  pub flat-stop : (place : ℕ) → i < count → byteHead 1 0 at (drop at s) ≡ wrong place → flat (count - i) at (drop at s) ≡ []
-  unfolding flat
-  flat-stop place h e = let z : count - i ≡ suc (count - (i + 1)) = omega arith in rw (z, e)
+  pub sequence-stop : (place : ℕ) → i < count → byteHead 1 0 at (drop at s) ≡ wrong place → inSequence (count - i) at (drop at s) ≡ []
+  unfolding inSequence
+  sequence-stop place h e = let z : count - i ≡ suc (count - (i + 1)) = omega arith in rw (z, e)
 
-  pub flat-end : count ≤ i → flat (count - i) at (drop at s) ≡ []
-  unfolding flat
-  flat-end h = let z : count - i ≡ zero = omega arith in rw z
+  pub sequence-end : count ≤ i → inSequence (count - i) at (drop at s) ≡ []
+  unfolding inSequence
+  sequence-end h = let z : count - i ≡ zero = omega arith in rw z
 
 sets-next : (l : List ℕ) (i x : ℕ) (xs : List ℕ) → sets (set l i x) (i + 1) xs ≡ sets l i (x ∷ xs)
 sets-next l i x xs = rw add-one
@@ -54,8 +54,8 @@ module _ {s : List ℕ} {start : ℕ} {kinds₀ values₀ : List ℕ} {count : �
   pub filling-more : (k v next : ℕ) → i < count → byteHead 1 0 at (drop at s) ≡ first k v next (drop next s) → next ≤ length s
       → Filling s start kinds₀ values₀ count (set kinds i k) (set values i v) next (i + 1)
   filling-more k v next h e n =
-      let rest : List Entry = flat (count - (i + 1)) next (drop next s) in
-      let more : flat (count - i) at (drop at s) ≡ entry k v ∷ rest = flat-more s count i at k v next h e in
+      let rest : List Entry = inSequence (count - (i + 1)) next (drop next s) in
+      let more : inSequence (count - i) at (drop at s) ≡ entry k v ∷ rest = sequence-more s count i at k v next h e in
       record {
         within = omega arith;
         all = f .all;
@@ -66,7 +66,7 @@ module _ {s : List ℕ} {start : ℕ} {kinds₀ values₀ : List ℕ} {count : �
         values-left = sets-next values i v (valuesOf rest) ∙ sym (ap (λ (x : List Entry). sets values i (valuesOf x)) more) ∙ f .values-left;
       }
 
-  pub filling-done : flat (count - i) at (drop at s) ≡ [] → StoresEntries start s kinds₀ values₀ kinds values
+  pub filling-done : inSequence (count - i) at (drop at s) ≡ [] → StoresEntries start s kinds₀ values₀ kinds values
   filling-done e =
       record {
         kinds-stored = sym (ap (λ (x : List Entry). sets kinds i (kindsOf x)) e) ∙ f .kinds-left;

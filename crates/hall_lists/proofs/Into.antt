@@ -14,19 +14,19 @@ use Rattle.hall_read.specs.Halls.{HallPlan, halls, refused, hallsOf}
 use Rattle.hall_read.specs.Laws.Refusals.{Numbered, plan-numbered}
 use Rattle.hall.specs.Answers.{refusedSummary, hallSummary, hallSummaryOf}
 use Rattle.hall.specs.declared.HallSummary.{HallSummary}
-use Rattle.hall_lists.specs.Lists.{fits, listsAnswer, listsSummary, kindsHeld, valuesHeld, listsKinds, listsValues, FillsLists}
-use Rattle.hall_lists.specs.Flat.{entriesStart, flat, StoresEntries}
-use Rattle.hall_lists.specs.Laws.Flat.{FlatPlan, flat-plan}
+use Rattle.hall_lists.specs.Lists.{listsFit, listsAnswer, listsSummary, kindsHeld, valuesHeld, listsKinds, listsValues, FillsLists}
+use Rattle.hall_lists.specs.Sequence.{entriesStart, inSequence, StoresEntries}
+use Rattle.hall_lists.specs.Laws.Sequence.{SequencePlan, sequence-plan}
 
 -- an accepted hall plan, from its summary
-pub record Accepted (s : List ℕ) (r : HallSummary) : Type 0 where
+pub record AcceptedPlan (s : List ℕ) (r : HallSummary) : Type 0 where
   pub outer : ℕ
   pub l : List Entry
   pub is : hallsOf s ≡ halls outer l
   pub answer : r ≡ hallSummary (halls outer l)
   pub entries : r .entries ≡ length l
   pub inside : entriesStart (planNumber 0 s) ≤ length s
-  pub read : flat (length l) (entriesStart (planNumber 0 s)) (drop (entriesStart (planNumber 0 s)) s) ≡ l
+  pub read : inSequence (length l) (entriesStart (planNumber 0 s)) (drop (entriesStart (planNumber 0 s)) s) ≡ l
 
 module _ (s kinds values : List ℕ) (r : HallSummary) (e : r ≡ hallSummaryOf s) where
   pub into-refused : (r .number ≡ done → ⊥) → FillsLists s kinds values kinds values r
@@ -39,17 +39,17 @@ module _ (s kinds values : List ℕ) (r : HallSummary) (e : r ≡ hallSummaryOf 
       go (halls outer l) q = absurd (n (ap (λ (x : HallSummary). x .number) q))
       go (refused m place) q = (q, (refl, refl))
 
-  pub into-accepted : r .number ≡ done → Accepted s r
+  pub into-accepted : r .number ≡ done → AcceptedPlan s r
   unfolding hallSummaryOf
-  into-accepted z = go (hallsOf s) refl (plan-numbered s) (flat-plan s) e
+  into-accepted z = go (hallsOf s) refl (plan-numbered s) (sequence-plan s) e
     where
-      go : (p : HallPlan) → hallsOf s ≡ p → Numbered p → FlatPlan s p → r ≡ hallSummary p → Accepted s r
+      go : (p : HallPlan) → hallsOf s ≡ p → Numbered p → SequencePlan s p → r ≡ hallSummary p → AcceptedPlan s r
       go (halls outer l) q n f a =
           record { outer = outer; l = l; is = q; answer = a; entries = ap (λ (x : HallSummary). x .entries) a; inside = f .0; read = f .1 }
       go (refused m place) q n f a = absurd (omega (arith, ap (λ (x : HallSummary). x .number) a))
 
-  module _ (w : Accepted s r) where
-    into-other : fits (length (w .l)) (length kinds) (length values) ≡ false → FillsLists s kinds values kinds values (refusedSummary malformedPlan)
+  module _ (w : AcceptedPlan s r) where
+    into-other : listsFit (length (w .l)) (length kinds) (length values) ≡ false → FillsLists s kinds values kinds values (refusedSummary malformedPlan)
     unfolding listsSummary listsKinds listsValues
     into-other f = record { answer = rw (w .is, f); kinds-held = rw (w .is, f); values-held = rw (w .is, f) }
 

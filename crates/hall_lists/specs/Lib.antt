@@ -1,4 +1,4 @@
 -- Reading into lists; entries one after another, whatever the halls; and laws.
 pub mod Lists
-pub mod Flat
+pub mod Sequence
 pub mod Laws

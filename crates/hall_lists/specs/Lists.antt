@@ -1,4 +1,4 @@
--- Reading a hall plan into two lent lists (docs/RULES.md, 'Hall plan'): both have exactly as many places as the plan has entries, else 9; and on a refusal they
+-- Reading a hall plan into two lent lists (docs/RULES.md, 'Hall plan'): both have exactly as many elements as the plan has entries, else 9; and on a refusal they
 -- hold what they held.
 use Prim.Native.Nat.{ℕ}
 use mathlib.Core.Path.{_≡_}
@@ -12,13 +12,13 @@ use Rattle.hall_read.specs.Halls.{HallPlan, halls, refused, hallsOf}
 use Rattle.hall.specs.Answers.{refusedSummary, hallSummary}
 use Rattle.hall.specs.declared.HallSummary.{HallSummary}
 
--- lists of n and m places fit so many entries
-abbrev pub fits : ℕ → ℕ → ℕ → Bool
-fits entries n m = eqb n entries && eqb m entries
+-- lists of n and m elements fit so many entries
+abbrev pub listsFit : ℕ → ℕ → ℕ → Bool
+listsFit entries n m = eqb n entries && eqb m entries
 
 -- the answer
 abbrev pub listsAnswer : ℕ → ℕ → HallPlan → HallSummary
-listsAnswer n m (halls outer l) = cond (fits (length l) n m) (hallSummary (halls outer l)) (refusedSummary malformedPlan)
+listsAnswer n m (halls outer l) = cond (listsFit (length l) n m) (hallSummary (halls outer l)) (refusedSummary malformedPlan)
 listsAnswer n m (refused r place) = refusedSummary r
 
 unfoldable pub listsSummary : List ℕ → ℕ → ℕ → HallSummary
@@ -26,11 +26,11 @@ listsSummary s n m = listsAnswer n m (hallsOf s)
 
 -- what the two lists hold afterwards: the entries' kinds and values, or what they held before
 abbrev pub kindsHeld : ℕ → HallPlan → List ℕ → List ℕ
-kindsHeld m (halls outer l) kinds = cond (fits (length l) (length kinds) m) (kindsOf l) kinds
+kindsHeld m (halls outer l) kinds = cond (listsFit (length l) (length kinds) m) (kindsOf l) kinds
 kindsHeld m (refused r place) kinds = kinds
 
 abbrev pub valuesHeld : ℕ → HallPlan → List ℕ → List ℕ
-valuesHeld n (halls outer l) values = cond (fits (length l) n (length values)) (valuesOf l) values
+valuesHeld n (halls outer l) values = cond (listsFit (length l) n (length values)) (valuesOf l) values
 valuesHeld n (refused r place) values = values
 
 unfoldable pub listsKinds : List ℕ → List ℕ → ℕ → List ℕ

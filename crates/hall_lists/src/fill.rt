@@ -1,5 +1,5 @@
 // The stores of entries into two lists. The caller has seen that the place lies inside the plan, and that the lists have one length.
-ghost use Rattle.hall_lists.specs.Flat.{ListsRoom, StoresEntries};
+ghost use Rattle.hall_lists.specs.Sequence.{ListsRoom, StoresEntries};
 use hall_entry::EntryRead;
 
 // Stores the entries from a place on, one after another, whatever the halls: the plan has been judged, so here either kind may stand.

@@ -5,7 +5,7 @@ ghost use mathlib.Core.Path.{_≡_};
 ghost use lib.ListN.{drop};
 ghost use Rattle.plan_read.specs.Plan.{planNumber};
 ghost use Rattle.hall_lists.specs.Lists.{FillsLists};
-ghost use Rattle.hall_lists.specs.Flat.{entriesStart};
+ghost use Rattle.hall_lists.specs.Sequence.{entriesStart};
 use hall::HallSummary;
 use leb128::Number;
 
@@ -19,7 +19,7 @@ fn entries_start(plan: &[u8]) -> usize
     }
 }
 
-// Reads a hall plan into two lists of exactly as many places as it has entries, and answers as for reading it. On a refusal, 9 for lists of another length
+// Reads a hall plan into two lists of exactly as many elements as it has entries, and answers as for reading it. On a refusal, 9 for lists of another length
 // among them, nothing is written: so the plan is read whole before the first store.
 pub fn read_into(plan: &[u8], kinds: &mut [u8], values: &mut [u32]) -> HallSummary
     ensures { λ r. ⌜ FillsLists (now (plan .entry)) (now (kinds .entry)) (now (values .entry)) (now (kinds .exit)) (now (values .exit)) r ⌝ }

@@ -16,17 +16,17 @@ use Rattle.hall_entry.specs.Limits.{levelsBelow}
 use Rattle.hall_entry.specs.Entries.{Entry, destinations, Read, reached, breach, entriesOf}
 use Rattle.hall_entry.specs.Bytes.{byteHead}
 use Rattle.hall_entry.specs.Laws.Bytes.{NumberAfter, number-inside, byte-heads}
-use Rattle.hall_read.specs.Halls.{HallPlan, halls, refused, ending, withOuter, hallsOf}
-use Rattle.hall_read.specs.Passing.{passed}
+use Rattle.hall_read.specs.Halls.{HallPlan, halls, refused, nothingAfter, withOuter, hallsOf}
+use Rattle.hall_read.specs.Passing.{passedOver}
 use Rattle.hall_read.specs.Answers.{hallAnswer, endAnswer, hallValues, parsedHalls, ReadsHalls}
-use Rattle.hall_read.specs.declared.Place.{Place}
+use Rattle.hall_read.specs.declared.Progress.{Progress}
 use Rattle.hall_read.specs.declared.HallRead.{HallRead}
 use Rattle.hall_read.specs.declared.HallRead.the-variants.{Refused}
 use Rattle.hall_read.specs.Laws.Kept.{kept-first}
 use Rattle.hall_read.specs.Laws.Reading.{After, after-hall}
 
 -- the place of the outermost hall's first entry
-abbrev pub startAt : ℕ → Place
+abbrev pub startAt : ℕ → Progress
 startAt next = record { at = next; entries = 0; chutes = 0; found = 0 }
 
 -- the values follow from the answer
@@ -43,7 +43,7 @@ module _ (c : ℕ) (s : List ℕ) where
   whole-long h = rw (lt-ltb _ _ h)
 
   end-reached : (outer at next : ℕ) (l : List Entry) (rest : List ℕ) → rest ≡ drop next s
-      → endAnswer outer (length s) (passed c (startAt at) (reached l next rest)) ≡ hallAnswer c (ending outer (reached l next rest))
+      → endAnswer outer (length s) (passedOver c (startAt at) (reached l next rest)) ≡ hallAnswer c (nothingAfter outer (reached l next rest))
   end-reached outer at next l [] e =
       let k : length s ≤ next = omega (arith, ap length e, length-drop next s) in
       let zl : 0 + length l ≡ length l = omega arith in
@@ -53,13 +53,13 @@ module _ (c : ℕ) (s : List ℕ) where
       let k : next < length s = omega (arith, ap length e, length-drop next s) in
       rw (lt-ltb _ _ k)
 
-  end-answer : (outer at : ℕ) (r : Read ℕ) → After s outer at r → endAnswer outer (length s) (passed c (startAt at) r) ≡ hallAnswer c (ending outer r)
+  end-answer : (outer at : ℕ) (r : Read ℕ) → After s outer at r → endAnswer outer (length s) (passedOver c (startAt at) r) ≡ hallAnswer c (nothingAfter outer r)
   end-answer outer at (reached l next rest) a = end-reached outer at next l rest (a .left)
   end-answer outer at (breach place) a = refl
 
   -- from the outermost number on
   abbrev pub outerAnswer : Number → HallRead
-  outerAnswer (Value n next) = endAnswer n (length s) (passed c (startAt next) (entriesOf byteHead levelsBelow n next 0 (drop next s)))
+  outerAnswer (Value n next) = endAnswer n (length s) (passedOver c (startAt next) (entriesOf byteHead levelsBelow n next 0 (drop next s)))
   outerAnswer (Bad place) = Refused malformedPlan place
 
   outer-answer : (p : Parsed) → NumberAfter s 0 p → outerAnswer (numberAnswer p) ≡ hallAnswer c (withOuter p)

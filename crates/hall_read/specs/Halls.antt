@@ -19,19 +19,19 @@ pub data HallPlan : Type 0 where
   halls : ℕ → List Entry → HallPlan
   refused : ℕ → ℕ → HallPlan
 
-abbrev pub malformed : ℕ → HallPlan
-malformed place = refused malformedPlan place
+abbrev pub malformedHalls : ℕ → HallPlan
+malformedHalls place = refused malformedPlan place
 
 -- nothing stands after the last entry
-abbrev pub ending : ℕ → Read ℕ → HallPlan
-ending outer (reached l next []) = halls outer l
-ending outer (reached l next (b ∷ rest)) = malformed next
-ending outer (breach place) = malformed place
+abbrev pub nothingAfter : ℕ → Read ℕ → HallPlan
+nothingAfter outer (reached l next []) = halls outer l
+nothingAfter outer (reached l next (b ∷ rest)) = malformedHalls next
+nothingAfter outer (breach place) = malformedHalls place
 
 -- the entries of the outermost hall, after their number
 abbrev pub withOuter : Parsed → HallPlan
-withOuter (value n next rest) = ending n (entriesOf byteHead levelsBelow n next 0 rest)
-withOuter (bad place) = malformed place
+withOuter (value n next rest) = nothingAfter n (entriesOf byteHead levelsBelow n next 0 rest)
+withOuter (bad place) = malformedHalls place
 
 unfoldable pub hallsOf : List ℕ → HallPlan
 hallsOf s = cond (ltb maxPlan (length s)) (refused inputTooLong 0) (withOuter (planNumber 0 s))

@@ -5,7 +5,7 @@ use mathlib.Core.Bool.{cond}
 use lib.Dec.{eqb}
 use lib.ListN.{length, getD}
 use Rattle.hall_entry.specs.Entries.{Entry, destinations, Read, reached, breach}
-use Rattle.hall_read.specs.declared.Place.{Place}
+use Rattle.hall_read.specs.declared.Progress.{Progress}
 use Rattle.hall_read.specs.declared.Pass.{Pass}
 use Rattle.hall_read.specs.declared.Pass.the-variants.{Reached, Breach}
 
@@ -19,9 +19,9 @@ unfoldable pub kept : ℕ → ℕ → ℕ → List ℕ → ℕ
 kept c i d [] = d
 kept c i d (v ∷ l) = kept c (i + 1) (cond (eqb (i + 1) c) v d) l
 
--- the place past entries, from a place before them
-abbrev pub moved : ℕ → Place → List Entry → ℕ → Place
-moved c from l next =
+-- a pass, past entries
+abbrev pub movedPast : ℕ → Progress → List Entry → ℕ → Progress
+movedPast c from l next =
     record {
       at = next;
       entries = from .entries + length l;
@@ -29,15 +29,15 @@ moved c from l next =
       found = kept c (from .chutes) (from .found) (destinations l);
     }
 
-abbrev pub passed : {A : Type 0} → ℕ → Place → Read A → Pass
-passed c from (reached l next rest) = Reached (moved c from l next)
-passed c from (breach place) = Breach place
+abbrev pub passedOver : {A : Type 0} → ℕ → Progress → Read A → Pass
+passedOver c from (reached l next rest) = Reached (movedPast c from l next)
+passedOver c from (breach place) = Breach place
 
--- the place of a hall's first entry, past its kind and its number of entries
-abbrev pub insideHall : Place → ℕ → Place
+-- a pass at a hall's first entry, past the hall's kind and its number of entries
+abbrev pub insideHall : Progress → ℕ → Progress
 insideHall from next = record { at = next; entries = from .entries + 1; chutes = from .chutes; found = from .found }
 
--- a place of a list of n elements, with no more entries before it than elements
-pub record PlaceIn (p : Place) (n : ℕ) : Type 0 where
+-- a pass that stands in a list of n elements, with no more entries before it than elements
+pub record ProgressIn (p : Progress) (n : ℕ) : Type 0 where
   pub counted : p .entries ≤ p .at
   pub inside : p .at ≤ n

@@ -8,17 +8,18 @@ ghost use Rattle.hall_read.specs.Halls.{hallsOf};
 ghost use Rattle.hall_read.specs.Answers.{endAnswer, ReadsHalls};
 use leb128::Number;
 
-// A place in a hall plan: the byte, the entries and the chutes before it, and the destination of the chute that is looked for, 0 until it is found.
-pub struct Place {
+// How far a pass over a hall plan has come: the place that it stands at, the entries and the chutes before it, and the destination of the chute that is looked
+// for, 0 until it is found.
+pub struct Progress {
     pub at: usize,
     pub entries: usize,
     pub chutes: u32,
     pub found: u32,
 }
 
-// What passing over entries comes to: the place past them, or the place of the first breach.
+// What passing over entries comes to: how far it has come past them, or the place of the first breach.
 pub enum Pass {
-    Reached(Place),
+    Reached(Progress),
     Breach(usize),
 }
 
@@ -78,7 +79,7 @@ pub fn read_whole(plan: &[u8], chute: u64) -> HallRead
     }
     match leb128::number_at(plan, 0, plan_read::READS_PADDED) {
         Number::Value { value, next } => {
-            let from = Place {
+            let from = Progress {
                 at: next,
                 entries: 0,
                 chutes: 0,

@@ -10,12 +10,12 @@ use Rattle.hall_lists.specs.Lists.{listsKinds, listsValues}
 use Rattle.hall_check.specs.Lists.{pairs, listHead, hallsAllowed, listsAllowed}
 use Rattle.hall_length.specs.Written.{writtenEntries, writtenHalls}
 use Rattle.hall_length.specs.Length.{hallLengthOf}
-use Rattle.hall_write.specs.Write.{hallsFill, hallWrittenOf}
+use Rattle.hall_write.specs.Write.{hallsFill, hallWriteRefusal, hallWrittenOf}
 use Rattle.hall_theorems.specs.Examples.{twoEntries, eightLevels, nineLevels, HallExamples}
 
 pub hall-examples : HallExamples
 unfolding twoEntries eightLevels nineLevels hallSummaryOf hallLookupOf listsKinds listsValues hallsOf byteHead entriesWith innerOf destinations groups
-    hallLengthOf hallWrittenOf hallsFill listsAllowed hallsAllowed listHead pairs writtenHalls writtenEntries writtenGroups
+    hallLengthOf hallWrittenOf hallWriteRefusal hallsFill listsAllowed hallsAllowed listHead pairs writtenHalls writtenEntries writtenGroups
 hall-examples =
     record {
       summary = refl;
@@ -28,8 +28,16 @@ hall-examples =
       shorter-list = refl;
       length = refl;
       written = refl;
+      longer-list = refl;
+      unequal-lists = refl;
+      fewer-follow = refl;
+      more-follow = refl;
+      value-too-large = refl;
+      longer-buffer = refl;
+      long-buffer = refl;
       no-entries = refl;
       empty-hall = refl;
+      empty-halls = refl;
       no-bytes = refl;
       kind-2 = refl;
       kind-in-three-groups = refl;

@@ -22,16 +22,16 @@ use Rattle.hall_entry.specs.Entries.{Entry, kindsOf, valuesOf, Read, reached, b
 use Rattle.hall_entry.specs.Bytes.{byteHead}
 use Rattle.hall_entry.specs.Laws.Induction.{AllGood}
 use Rattle.hall_entry.specs.Laws.Bytes.{NumberAfter, number-inside}
-use Rattle.hall_read.specs.Halls.{HallPlan, halls, refused, ending, withOuter, hallsOf}
+use Rattle.hall_read.specs.Halls.{HallPlan, halls, refused, nothingAfter, withOuter, hallsOf}
 use Rattle.hall_read.specs.Laws.Refusals.{Numbered, plan-numbered}
 use Rattle.hall.specs.Answers.{hallSummary, hallSummaryOf, hallLookupOf}
 use Rattle.hall_lists.specs.Lists.{listsSummary, listsKinds, listsValues}
 use Rattle.hall_length.specs.Written.{writtenHalls}
 use Rattle.hall_length.specs.Length.{lengthWithin, hallLengthOf}
 use Rattle.hall_write.specs.Write.{hallWriteRefusal, hallWrittenOf}
-use Rattle.hall_write.proofs.RoundTrip.{round-trip as halls-back}
-use Rattle.hall_theorems.specs.Tree.{Hall, none, chute, inner, count, listed, chutes, Fits, WithinLimits}
-use Rattle.hall_theorems.specs.HallTheorems.{summaryOfHall, IsHall, Accepted, Written, HallTheorems}
+use Rattle.hall_write.proofs.RoundTrip.{written-reads, asked-accepted}
+use Rattle.hall_theorems.specs.Tree.{Hall, none, chute, inner, count, listed, destinationsOf, NumbersFit, HallLimits}
+use Rattle.hall_theorems.specs.HallTheorems.{summaryOfHall, IsHall, AcceptedHall, Written, HallTheorems}
 use Rattle.hall_theorems.proofs.Trees.{Good, TreeOf, trees, listed-chutes}
 use Rattle.hall_theorems.proofs.Lists.{pairs-back, hall-allowed}
 use Rattle.hall_theorems.proofs.OneHall.{one-hall}
@@ -42,7 +42,7 @@ module _ (h : Hall) (s : List ℕ) (e : hallsOf s ≡ halls (count h) (listed h)
   unfolding hallSummaryOf
   answered = rw (e, listed-chutes h)
 
-  looked-up : (c : ℕ) → hallLookupOf s c ≡ lookupIn (chutes h) c
+  looked-up : (c : ℕ) → hallLookupOf s c ≡ lookupIn (destinationsOf h) c
   unfolding hallLookupOf
   looked-up c = rw (e, listed-chutes h)
 
@@ -73,7 +73,7 @@ tree-plan : (s : List ℕ) → TreePlan (hallsOf s)
 unfolding hallsOf
 tree-plan s = go (ltb maxPlan (length s))
   where
-    of-ending : (outer at : ℕ) (t : List ℕ) (r : Read ℕ) → outer ≤ maxNumber → AllGood byteHead Good levelsBelow outer at 0 t r → TreePlan (ending outer r)
+    of-ending : (outer at : ℕ) (t : List ℕ) (r : Read ℕ) → outer ≤ maxNumber → AllGood byteHead Good levelsBelow outer at 0 t r → TreePlan (nothingAfter outer r)
     of-ending outer at t (reached l next []) o g = (o, g (omega arith))
     of-ending outer at t (reached l next (b ∷ rest)) o g = tt
     of-ending outer at t (breach place) o g = tt
@@ -88,7 +88,7 @@ tree-plan s = go (ltb maxPlan (length s))
 
 -- it is that hall, and its entries are those that were read
 pub record ReadHall (s : List ℕ) (outer : ℕ) (l : List Entry) : Type 0 where
-  pub accepted : Accepted s
+  pub accepted : AcceptedHall s
   pub same-outer : count (accepted .hall) ≡ outer
   pub same-entries : listed (accepted .hall) ≡ l
 
@@ -108,11 +108,11 @@ read-hall s outer l e = go (rw e at (tree-plan s))
           same-entries = w .is-listed;
         }
 
-of-accepted : (s : List ℕ) → hallSummaryOf s .number ≡ done → Accepted s
+of-accepted : (s : List ℕ) → hallSummaryOf s .number ≡ done → AcceptedHall s
 unfolding hallSummaryOf
 of-accepted s z = go (hallsOf s) refl (plan-numbered s) z
   where
-    go : (p : HallPlan) → hallsOf s ≡ p → Numbered p → hallSummary p .number ≡ done → Accepted s
+    go : (p : HallPlan) → hallsOf s ≡ p → Numbered p → hallSummary p .number ≡ done → AcceptedHall s
     go (halls outer l) e n q = read-hall s outer l e .accepted
     go (refused m place) e n q = absurd (omega arith)
 
@@ -121,18 +121,18 @@ fits-append : (l m : List ℕ) → EachFits l → EachFits m → EachFits (l ++ 
 fits-append [] m a b = b
 fits-append (v ∷ l) m a b = (a .0, fits-append l m (a .1) b)
 
-chutes-fit : (h : Hall) → Fits h → EachFits (chutes h)
-unfolding chutes Fits
+chutes-fit : (h : Hall) → NumbersFit h → EachFits (destinationsOf h)
+unfolding destinationsOf NumbersFit
 chutes-fit none f = tt
 chutes-fit (chute d more) f = (f .0, chutes-fit more (f .1))
-chutes-fit (inner h more) f = fits-append (chutes h) (chutes more) (chutes-fit h (f .1 .0)) (chutes-fit more (f .1 .1))
+chutes-fit (inner h more) f = fits-append (destinationsOf h) (destinationsOf more) (chutes-fit h (f .1 .0)) (chutes-fit more (f .1 .1))
 
-of-flat : (h : Hall) (s out : List ℕ) → WithinLimits h → IsHall h s → length out ≡ lengthOf (chutes h) .length
-    → (writeRefusal (chutes h) (length out) ≡ done) × ((c : ℕ) → hallLookupOf s c ≡ lookupOf (writtenOf (chutes h) out) c)
+of-flat : (h : Hall) (s out : List ℕ) → HallLimits h → IsHall h s → length out ≡ lengthOf (destinationsOf h) .length
+    → (writeRefusal (destinationsOf h) (length out) ≡ done) × ((c : ℕ) → hallLookupOf s c ≡ lookupOf (writtenOf (destinationsOf h) out) c)
 of-flat h s out a i n =
-    let ok = round-trip .accepts (chutes h) (a .few-chutes) (chutes-fit h (a .fits)) in
-    let written : writeRefusal (chutes h) (length out) ≡ done = rw n (round-trip .length-accepted (chutes h) ok) in
-    (written, λ c. i .every-chute c ∙ sym (round-trip .reads-back (chutes h) out written .every-chute c))
+    let ok = round-trip .accepts (destinationsOf h) (a .few-chutes) (chutes-fit h (a .fits)) in
+    let written : writeRefusal (destinationsOf h) (length out) ≡ done = rw n (round-trip .length-accepted (destinationsOf h) ok) in
+    (written, λ c. i .every-chute c ∙ sym (round-trip .reads-back (destinationsOf h) out written .every-chute c))
 
 -- writing, by what reading gives back
 same-written : (outer : ℕ) (kinds values s : List ℕ) (l : List Entry) → hallsOf s ≡ halls outer l → kindsOf l ≡ kinds → valuesOf l ≡ values
@@ -149,10 +149,21 @@ same-written outer kinds values s l e k v =
 of-written : (outer : ℕ) (kinds values out : List ℕ) → hallWriteRefusal outer kinds values (length out) ≡ done
     → Written outer kinds values (hallWrittenOf outer kinds values out)
 of-written outer kinds values out e =
-    let w = halls-back .reads-back outer kinds values out e in
+    let w = written-reads outer kinds values out e in
     same-written outer kinds values (hallWrittenOf outer kinds values out) (w .entries) (w .is) (w .same-kinds) (w .same-values)
 
-every-length : (h : Hall) → WithinLimits h
+same-bytes : (outer outer′ : ℕ) (kinds kinds′ values values′ out out′ : List ℕ) → hallWriteRefusal outer kinds values (length out) ≡ done
+    → hallWriteRefusal outer′ kinds′ values′ (length out′) ≡ done → hallWrittenOf outer kinds values out ≡ hallWrittenOf outer′ kinds′ values′ out′
+    → (outer ≡ outer′) × ((kinds ≡ kinds′) × (values ≡ values′))
+same-bytes outer outer′ kinds kinds′ values values′ out out′ e e′ same =
+    let w = written-reads outer kinds values out e in
+    let w′ = written-reads outer′ kinds′ values′ out′ e′ in
+    let both : halls outer (w .entries) ≡ halls outer′ (w′ .entries) = sym (w .is) ∙ ap hallsOf same ∙ w′ .is in
+    let one : outer ≡ outer′ = cc in
+    let entries : w .entries ≡ w′ .entries = cc in
+    (one, (sym (w .same-kinds) ∙ ap kindsOf entries ∙ w′ .same-kinds, sym (w .same-values) ∙ ap valuesOf entries ∙ w′ .same-values))
+
+every-length : (h : Hall) → HallLimits h
     → hallLengthOf (count h) (kindsOf (listed h)) (valuesOf (listed h)) ≡ lengthWithin (length (writtenHalls (count h) (listed h)))
 unfolding hallLengthOf
 every-length h w = rw (hall-allowed h w, pairs-back (listed h))
@@ -163,7 +174,8 @@ hall-theorems =
       accepted = of-accepted;
       flat-plan = of-flat;
       reads-back = of-written;
+      equal-bytes = same-bytes;
       every-hall = every-length;
-      length-accepted = halls-back .length-accepted;
+      length-accepted = asked-accepted;
       one-hall = one-hall;
     }

@@ -18,7 +18,7 @@ use Rattle.hall_entry.specs.Bytes.{valued, judged, byteHead}
 use Rattle.hall_entry.specs.Laws.Heads.{Kind, kind-known}
 use Rattle.hall_entry.specs.Laws.Induction.{AllGood, reads-good, chute-destinations, hall-destinations}
 use Rattle.hall_read.specs.Laws.Kept.{destinations-append}
-use Rattle.hall_theorems.specs.Tree.{Hall, none, chute, inner, count, listed, chutes, levels, Fits}
+use Rattle.hall_theorems.specs.Tree.{Hall, none, chute, inner, count, listed, destinationsOf, levelsOf, NumbersFit}
 
 -- what was read first: a kind that may stand there, and a value that three groups hold
 number-small : (at : ℕ) (s : List ℕ) (v next : ℕ) (rest : List ℕ) (p : Parsed) → Used readsPadded true 2 at s p → p ≡ value v next rest → v ≤ maxNumber
@@ -59,8 +59,8 @@ unfolding destinations
 no-destinations = refl
 
 -- the chutes of a hall are the destinations among its entries
-pub listed-chutes : (h : Hall) → destinations (listed h) ≡ chutes h
-unfolding listed chutes
+pub listed-chutes : (h : Hall) → destinations (listed h) ≡ destinationsOf h
+unfolding listed destinationsOf
 listed-chutes none = no-destinations
 listed-chutes (chute d more) = chute-destinations d (listed more) ∙ ap (λ (x : List ℕ). d ∷ x) (listed-chutes more)
 listed-chutes (inner h more) =
@@ -72,21 +72,21 @@ pub record TreeOf (below n before : ℕ) (l : List Entry) : Type 0 where
   pub hall : Hall
   pub is-count : count hall ≡ n
   pub is-listed : listed hall ≡ l
-  pub deep : levels hall ≤ suc below
-  pub few : before + length (chutes hall) ≤ maxChutes
-  pub fits : Fits hall
+  pub deep : levelsOf hall ≤ suc below
+  pub few : before + length (destinationsOf hall) ≤ maxChutes
+  pub fits : NumbersFit hall
 
 abbrev pub Good : (below n at before : ℕ) → List ℕ → List Entry → ℕ → List ℕ → Type 0
 Good below n at before s l next rest = before ≤ maxChutes → TreeOf below n before l
 
 good-none : (below at before : ℕ) (s : List ℕ) → Good below 0 at before s [] at s
-unfolding count listed levels chutes Fits
+unfolding count listed levelsOf destinationsOf NumbersFit
 good-none below at before s h = record { hall = none; is-count = refl; is-listed = refl; deep = omega arith; few = omega arith; fits = tt }
 
 good-chute : (below n at before : ℕ) (s : List ℕ) (v mid : ℕ) (t : List ℕ) (l : List Entry) (next : ℕ) (rest : List ℕ)
     → byteHead below before at s ≡ first chuteKind v mid t → Good below n mid (before + 1) t l next rest
     → Good below (suc n) at before s (entry chuteKind v ∷ l) next rest
-unfolding count listed levels chutes Fits
+unfolding count listed levelsOf destinationsOf NumbersFit
 good-chute below n at before s v mid t l next rest e g h =
     let f = first-known below before at s chuteKind v mid t e in
     let r = g (omega (arith, f .0 .chute refl)) in
@@ -107,19 +107,19 @@ listed-hall h more k v l m ek ev el em = rw (ek, ev, el, em)
 good-hall : (below n at before : ℕ) (s : List ℕ) (k v mid : ℕ) (t : List ℕ) (l : List Entry) (past : ℕ) (u : List ℕ) (m : List Entry) (next : ℕ) (rest : List ℕ)
     → byteHead (suc below) before at s ≡ first k v mid t → (k ≡ chuteKind → ⊥) → Good below v mid before t l past u
     → Good (suc below) n past (before + length (destinations l)) u m next rest → Good (suc below) (suc n) at before s (entry k v ∷ (l ++ m)) next rest
-unfolding count listed levels chutes Fits
+unfolding count listed levelsOf destinationsOf NumbersFit
 good-hall below n at before s k v mid t l past u m next rest e o i g h =
     let f = first-known (suc below) before at s k v mid t e in
     let a = i h in
     let one : hallKind ≡ k = omega (arith, f .0 .small, positive k o) in
-    let d : length (destinations l) ≡ length (chutes (a .hall)) = ap length (sym (ap destinations (a .is-listed)) ∙ listed-chutes (a .hall)) in
+    let d : length (destinations l) ≡ length (destinationsOf (a .hall)) = ap length (sym (ap destinations (a .is-listed)) ∙ listed-chutes (a .hall)) in
     let b = g (omega (arith, a .few)) in
     record {
       hall = inner (a .hall) (b .hall);
       is-count = ap suc (b .is-count);
       is-listed = listed-hall (a .hall) (b .hall) k v l m one (a .is-count) (a .is-listed) (b .is-listed);
       deep = max-le (omega (arith, a .deep)) (b .deep);
-      few = omega (arith, b .few, length-append (chutes (a .hall)) (chutes (b .hall)));
+      few = omega (arith, b .few, length-append (destinationsOf (a .hall)) (destinationsOf (b .hall)));
       fits = (omega (arith, a .is-count, f .1), (a .fits, b .fits));
     }
   where

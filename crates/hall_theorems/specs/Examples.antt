@@ -2,12 +2,13 @@
 use Prim.Native.Nat.{ℕ}
 use mathlib.Core.Path.{_≡_}
 use mathlib.Core.List.{List, [], _∷_}
-use Rattle.answers.specs.Numbers.{done, malformedPlan, noSuchChute}
+use Rattle.answers.specs.Numbers.{done, inputTooLong, malformedPlan, noSuchChute}
 use Rattle.plan.specs.Answers.{noDestination}
+use Rattle.plan_length.specs.Length.{noLength}
 use Rattle.hall.specs.Answers.{refusedSummary, acceptedSummary, hallSummaryOf, hallLookupOf}
 use Rattle.hall_lists.specs.Lists.{listsKinds, listsValues}
 use Rattle.hall_length.specs.Length.{hallLengthOf}
-use Rattle.hall_write.specs.Write.{hallWrittenOf}
+use Rattle.hall_write.specs.Write.{hallWriteRefusal, hallWrittenOf}
 
 -- two entries: a hall of two chutes (7 and 300), and a chute (0)
 unfoldable pub twoEntries : List ℕ
@@ -31,8 +32,17 @@ pub record HallExamples : Type 0 where
   pub shorter-list : listsKinds twoEntries (9 ∷ 9 ∷ 9 ∷ []) 4 ≡ 9 ∷ 9 ∷ 9 ∷ []
   pub length : hallLengthOf 2 (1 ∷ 0 ∷ 0 ∷ 0 ∷ []) (2 ∷ 7 ∷ 300 ∷ 0 ∷ []) ≡ record { number = done; length = 10 }
   pub written : hallWrittenOf 1 (0 ∷ []) (300 ∷ []) (0 ∷ 0 ∷ 0 ∷ 0 ∷ []) ≡ 0x01 ∷ 0x00 ∷ 0xAC ∷ 0x02 ∷ []
+  -- lists that are longer or unequal, halls that promise more or fewer entries than follow, and a buffer one longer
+  pub longer-list : listsValues twoEntries 4 (9 ∷ 9 ∷ 9 ∷ 9 ∷ 9 ∷ []) ≡ 9 ∷ 9 ∷ 9 ∷ 9 ∷ 9 ∷ []
+  pub unequal-lists : hallLengthOf 1 (0 ∷ []) (7 ∷ 7 ∷ []) ≡ noLength
+  pub fewer-follow : hallLengthOf 1 (1 ∷ 0 ∷ []) (2 ∷ 7 ∷ []) ≡ noLength
+  pub more-follow : hallLengthOf 1 (1 ∷ 0 ∷ 0 ∷ []) (1 ∷ 7 ∷ 7 ∷ []) ≡ noLength
+  pub value-too-large : hallLengthOf 1 (0 ∷ []) (2097152 ∷ []) ≡ noLength
+  pub longer-buffer : hallWriteRefusal 1 (0 ∷ []) (300 ∷ []) 5 ≡ malformedPlan
+  pub long-buffer : hallWriteRefusal 1 (2 ∷ []) (300 ∷ []) 65537 ≡ inputTooLong
   pub no-entries : hallSummaryOf (0x00 ∷ []) ≡ acceptedSummary 0 0 0
   pub empty-hall : hallSummaryOf (0x01 ∷ 0x01 ∷ 0x00 ∷ []) ≡ acceptedSummary 1 1 0
+  pub empty-halls : hallSummaryOf (0x01 ∷ 0x01 ∷ 0x02 ∷ 0x01 ∷ 0x00 ∷ 0x01 ∷ 0x00 ∷ []) ≡ acceptedSummary 1 3 0
   pub no-bytes : hallSummaryOf [] ≡ refusedSummary malformedPlan
   pub kind-2 : hallSummaryOf (0x01 ∷ 0x02 ∷ 0x00 ∷ []) ≡ refusedSummary malformedPlan
   pub kind-in-three-groups : hallSummaryOf (0x01 ∷ 0x81 ∷ 0x80 ∷ 0x00 ∷ 0x00 ∷ []) ≡ acceptedSummary 1 1 0

@@ -26,26 +26,26 @@ listed (chute d more) = entry chuteKind d ∷ listed more
 listed (inner h more) = entry hallKind (count h) ∷ (listed h ++ listed more)
 
 -- the destinations of its chutes in reading order, those of the halls in it too
-unfoldable pub chutes : Hall → List ℕ
-chutes none = []
-chutes (chute d more) = d ∷ chutes more
-chutes (inner h more) = chutes h ++ chutes more
+unfoldable pub destinationsOf : Hall → List ℕ
+destinationsOf none = []
+destinationsOf (chute d more) = d ∷ destinationsOf more
+destinationsOf (inner h more) = destinationsOf h ++ destinationsOf more
 
 -- its levels: itself, and those of the halls in it
-unfoldable pub levels : Hall → ℕ
-levels none = 1
-levels (chute d more) = levels more
-levels (inner h more) = max (suc (levels h)) (levels more)
+unfoldable pub levelsOf : Hall → ℕ
+levelsOf none = 1
+levelsOf (chute d more) = levelsOf more
+levelsOf (inner h more) = max (suc (levelsOf h)) (levelsOf more)
 
 -- three groups hold each destination, and the number of entries of each hall in it
-unfoldable pub Fits : Hall → Type 0
-Fits none = Unit
-Fits (chute d more) = (d ≤ maxNumber) × Fits more
-Fits (inner h more) = (count h ≤ maxNumber) × (Fits h × Fits more)
+unfoldable pub NumbersFit : Hall → Type 0
+NumbersFit none = Unit
+NumbersFit (chute d more) = (d ≤ maxNumber) × NumbersFit more
+NumbersFit (inner h more) = (count h ≤ maxNumber) × (NumbersFit h × NumbersFit more)
 
 -- what a hall plan may hold
-pub record WithinLimits (h : Hall) : Type 0 where
-  pub eight-levels : levels h ≤ maxLevels
-  pub few-chutes : length (chutes h) ≤ maxChutes
+pub record HallLimits (h : Hall) : Type 0 where
+  pub eight-levels : levelsOf h ≤ maxLevels
+  pub few-chutes : length (destinationsOf h) ≤ maxChutes
   pub outer-fits : count h ≤ maxNumber
-  pub fits : Fits h
+  pub fits : NumbersFit h

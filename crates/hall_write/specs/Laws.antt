@@ -14,7 +14,7 @@ use Rattle.hall_entry.specs.Limits.{levelsBelow}
 use Rattle.hall_entry.specs.Entries.{Entry, entry, chuteKind, destinations, first, reached, entriesWith, innerOf, entriesOf}
 use Rattle.hall_entry.specs.Bytes.{byteHead}
 use Rattle.hall_entry.specs.Laws.Heads.{kind-known}
-use Rattle.hall_entry.specs.Laws.Induction.{AllGood, None, Chute, Hall, reads-good, hall-destinations}
+use Rattle.hall_entry.specs.Laws.Induction.{AllGood, WithNone, WithChute, WithHall, reads-good, hall-destinations}
 use Rattle.hall_read.specs.Halls.{halls, hallsOf}
 use Rattle.hall_check.specs.Lists.{listHead, allRead}
 use Rattle.hall_check.specs.Laws.Heads.{stands}
@@ -46,17 +46,17 @@ pub record Alike (levels n b chutes : ℕ) (s l rest : List Entry) : Type 0 wher
 abbrev pub ReadAlike : (levels n at chutes : ℕ) → List Entry → List Entry → ℕ → List Entry → Type 0
 ReadAlike levels n at chutes s l next rest = (b : ℕ) → Alike levels n b chutes s l rest
 
-alike-none : None listHead ReadAlike
+alike-none : WithNone listHead ReadAlike
 unfolding entriesWith
 alike-none levels at chutes s b = record { end = b; is = refl }
 
-alike-chute : Chute listHead ReadAlike
+alike-chute : WithChute listHead ReadAlike
 unfolding entriesWith destinations
 alike-chute levels n at chutes s v mid t l next rest e g b =
     let a = g (past levels chutes at chuteKind v mid s t e b) in
     record { end = a .end; is = rw (head-alike levels chutes at chuteKind v mid s t e b, a .is) }
 
-alike-hall : Hall listHead ReadAlike
+alike-hall : WithHall listHead ReadAlike
 unfolding entriesWith innerOf
 alike-hall levels n at chutes s k v mid t inner past′ u l next rest e o i g b =
     let a = i (past (suc levels) chutes at k v mid s t e b) in

@@ -48,9 +48,9 @@ taken-both : (s t l k rest : List Entry) → TakenFrom s l t → TakenFrom t k r
 taken-both s t l k rest a b =
     record { whole = append-assoc l k rest ∙ ap (λ (x : List Entry). l ++ x) (b .whole) ∙ a .whole; fit = fit-append l k (a .fit) (b .fit) }
 
-pub taken : (levels n at chutes : ℕ) (s : List Entry) → AllGood listHead Taken levels n at chutes s (entriesOf listHead levels n at chutes s)
+pub reads-taken : (levels n at chutes : ℕ) (s : List Entry) → AllGood listHead Taken levels n at chutes s (entriesOf listHead levels n at chutes s)
 unfolding EntriesFit
-taken levels n at chutes s =
+reads-taken levels n at chutes s =
     reads-good listHead Taken
     (λ levels at chutes s. record { whole = refl; fit = tt })
     (λ levels n at chutes s v mid t l next rest e g. taken-more levels chutes at chuteKind v mid s t l rest e g)
@@ -84,7 +84,7 @@ pub record ReadWhole (l : List Entry) (r : Read Entry) : Type 0 where
 
 pub read-whole : (levels n at chutes : ℕ) (l : List Entry) → allRead (entriesOf listHead levels n at chutes l) ≡ true
     → ReadWhole l (entriesOf listHead levels n at chutes l)
-read-whole levels n at chutes l = go (entriesOf listHead levels n at chutes l) (taken levels n at chutes l)
+read-whole levels n at chutes l = go (entriesOf listHead levels n at chutes l) (reads-taken levels n at chutes l)
   where
     go : (r : Read Entry) → AllGood listHead Taken levels n at chutes l r → allRead r ≡ true → ReadWhole l r
     go (reached k next []) a ok =

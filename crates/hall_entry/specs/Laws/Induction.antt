@@ -60,25 +60,25 @@ module _ {A : Type 0} (head : ℕ → ℕ → ℕ → List A → Head A) where
     InnerGood levels n at chutes s (breach place) = Unit
 
     -- no entries
-    abbrev pub None : Type 0
-    None = (levels at chutes : ℕ) (s : List A) → Good levels 0 at chutes s [] at s
+    abbrev pub WithNone : Type 0
+    WithNone = (levels at chutes : ℕ) (s : List A) → Good levels 0 at chutes s [] at s
 
     -- one more before others, a chute
-    abbrev pub Chute : Type 0
-    Chute =
+    abbrev pub WithChute : Type 0
+    WithChute =
         (levels n at chutes : ℕ) (s : List A) (v mid : ℕ) (t : List A) (l : List Entry) (next : ℕ) (rest : List A)
         → head levels chutes at s ≡ first chuteKind v mid t → Good levels n mid (chutes + 1) t l next rest
         → Good levels (suc n) at chutes s (entry chuteKind v ∷ l) next rest
 
     -- one more before others, a hall with the entries `inner`
-    abbrev pub Hall : Type 0
-    Hall =
+    abbrev pub WithHall : Type 0
+    WithHall =
         (levels n at chutes : ℕ) (s : List A) (k v mid : ℕ) (t : List A) (inner : List Entry) (past : ℕ) (u : List A) (l : List Entry) (next : ℕ)
         (rest : List A) → head (suc levels) chutes at s ≡ first k v mid t → (k ≡ chuteKind → ⊥) → Good levels v mid chutes t inner past u
         → Good (suc levels) n past (chutes + length (destinations inner)) u l next rest
         → Good (suc levels) (suc n) at chutes s (entry k v ∷ (inner ++ l)) next rest
 
-    module _ (none : None) (chute : Chute) (hall : Hall) where
+    module _ (none : WithNone) (chute : WithChute) (hall : WithHall) where
       module _ (levels n at chutes : ℕ) (s : List A) (go : List Entry → ℕ → List A → Read A)
           (more : (l : List Entry) (next : ℕ) (rest : List A) → AllGood levels n next (chutes + length (destinations l)) rest (go l next rest)) where
         after-chute : (v mid : ℕ) (t : List A) → head levels chutes at s ≡ first chuteKind v mid t

@@ -4,7 +4,7 @@ use native.Mathlib.Omega.{arith}
 use denote.Ref.{now}
 use Rattle.hall.specs.declared.HallSummary.{HallSummary}
 use Rattle.hall_lists.specs.Lists.{FillsLists}
-use Rattle.hall_lists.proofs.Into.{Accepted, into-refused, into-accepted, into-kinds, into-values, into-filled}
+use Rattle.hall_lists.proofs.Into.{AcceptedPlan, into-refused, into-accepted, into-kinds, into-values, into-filled}
 use borrow.Author.Needs.{needs}
 use Rattle.hall_lists.proofs.read_into.Statement.{statement}
 use Rattle.hall_lists.proofs.read_into.Tie as tie
@@ -13,7 +13,7 @@ abbrev start : tie.After-read-halls → tie.Start
 start r = r .before .before .before .before
 
 -- the plan is accepted
-accepted : (e : tie.Else1) → let r = e .before .before in Accepted (now (start r .args .plan)) (r .read-halls .result)
+accepted : (e : tie.Else1) → let r = e .before .before in AcceptedPlan (now (start r .args .plan)) (r .read-halls .result)
 accepted e =
     let r = e .before .before in
     let a = start r .args in

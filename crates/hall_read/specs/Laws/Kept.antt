@@ -1,4 +1,4 @@
--- Laws of what a lookup keeps while entries are passed over, and of places moved past entries.
+-- Laws of what a lookup keeps while entries are passed over, and of passes moved past entries.
 use mathlib.Core.Path.{_≡_, refl, sym, ap, _∙_}
 use mathlib.Core.List.{List, [], _∷_, _++_}
 use mathlib.Core.Bool.{Bool, true, false, cond}
@@ -8,8 +8,8 @@ use lib.ListN.{length, getD, length-append}
 use lib.Dec.{eqb}
 use borrow.Author.Tests.{eq-eqb, ne-eqb}
 use Rattle.hall_entry.specs.Entries.{Entry, entry, chuteKind, destinations, Read, reached, breach, prepend}
-use Rattle.hall_read.specs.Passing.{chuteAt, kept, moved, passed, insideHall}
-use Rattle.hall_read.specs.declared.Place.{Place}
+use Rattle.hall_read.specs.Passing.{chuteAt, kept, movedPast, passedOver, insideHall}
+use Rattle.hall_read.specs.declared.Progress.{Progress}
 use Rattle.hall_read.specs.declared.Pass.the-variants.{Reached, Breach}
 
 kept-past : (c i d : ℕ) (l : List ℕ) → c ≤ i → kept c i d l ≡ d
@@ -48,8 +48,8 @@ destinations-append (e ∷ l) k = go (eqb (e .kind) chuteKind) (destinations-app
     go true q = ap (λ (t : List ℕ). e .value ∷ t) q
     go false q = q
 
-module _ (c : ℕ) (from : Place) (l : List Entry) (mid : ℕ) where
-  moved-append : (k : List Entry) (next : ℕ) → moved c from (l ++ k) next ≡ moved c (moved c from l mid) k next
+module _ (c : ℕ) (from : Progress) (l : List Entry) (mid : ℕ) where
+  moved-append : (k : List Entry) (next : ℕ) → movedPast c from (l ++ k) next ≡ movedPast c (movedPast c from l mid) k next
   moved-append k next =
       let d : List ℕ = destinations l in
       let m : List ℕ = destinations k in
@@ -57,24 +57,24 @@ module _ (c : ℕ) (from : Place) (l : List Entry) (mid : ℕ) where
       let f : from .chutes + (length d + length m) ≡ from .chutes + length d + length m = omega arith in
       rw (length-append l k, e, destinations-append l k, length-append d m, f, kept-append c (from .chutes) (from .found) d m)
 
-  pub passed-prepend : {A : Type 0} (r : Read A) → passed c from (prepend l r) ≡ passed c (moved c from l mid) r
+  pub passed-prepend : {A : Type 0} (r : Read A) → passedOver c from (prepend l r) ≡ passedOver c (movedPast c from l mid) r
   passed-prepend (reached k next rest) = ap Reached (moved-append k next)
   passed-prepend (breach place) = refl
 
--- a place past no entries, past one chute, and inside a hall
-pub moved-none : (c : ℕ) (from : Place) → moved c from [] (from .at) ≡ from
+-- a pass, past no entries, past one chute, and inside a hall
+pub moved-none : (c : ℕ) (from : Progress) → movedPast c from [] (from .at) ≡ from
 unfolding destinations kept
 moved-none c from =
     let e : from .entries + 0 ≡ from .entries = omega arith in
     let f : from .chutes + 0 ≡ from .chutes = omega arith in
     rw (e, f)
 
-pub moved-hall : (c : ℕ) (from : Place) (k v next : ℕ) → (k ≡ chuteKind → ⊥) → moved c from (entry k v ∷ []) next ≡ insideHall from next
+pub moved-hall : (c : ℕ) (from : Progress) (k v next : ℕ) → (k ≡ chuteKind → ⊥) → movedPast c from (entry k v ∷ []) next ≡ insideHall from next
 unfolding destinations kept
 moved-hall c from k v next n = let f : from .chutes + 0 ≡ from .chutes = omega arith in rw (ne-eqb _ _ n, f)
 
-pub moved-chute : (c : ℕ) (from : Place) (v next : ℕ)
-    → moved c from (entry chuteKind v ∷ []) next
+pub moved-chute : (c : ℕ) (from : Progress) (v next : ℕ)
+    → movedPast c from (entry chuteKind v ∷ []) next
     ≡ record { at = next; entries = from .entries + 1; chutes = from .chutes + 1; found = cond (eqb (from .chutes + 1) c) v (from .found) }
 unfolding destinations kept
 moved-chute c from v next = refl

@@ -23,8 +23,8 @@ use Rattle.hall_entry.specs.Entries.{
 }
 use Rattle.hall_entry.specs.Laws.Heads.{HeadAfter}
 use Rattle.hall_entry.specs.Laws.Induction.{entry-alone, AllGood, reads-good}
-use Rattle.hall_read.specs.Passing.{moved, passed, insideHall, PlaceIn}
-use Rattle.hall_read.specs.declared.Place.{Place}
+use Rattle.hall_read.specs.Passing.{movedPast, passedOver, insideHall, ProgressIn}
+use Rattle.hall_read.specs.declared.Progress.{Progress}
 use Rattle.hall_read.specs.declared.Pass.the-variants.{Reached, Breach}
 use Rattle.hall_read.specs.Laws.Kept.{passed-prepend, moved-none, moved-hall}
 
@@ -84,18 +84,18 @@ module _ {A : Type 0} (s : List A) where
     after-entry levels at chutes h = rw (← entry-alone head levels at chutes (drop at s)) (after-hall levels 1 at chutes h)
 
     -- from the pass's answer to what was read
-    pub record Known (least at c : ℕ) (from : Place) (r : Read A) (q : Place) : Type 0 where
+    pub record Known (least at c : ℕ) (from : Progress) (r : Read A) (q : Progress) : Type 0 where
       pub l : List Entry
       pub is : r ≡ reached l (q .at) (drop (q .at) s)
-      pub place : q ≡ moved c from l (q .at)
+      pub place : q ≡ movedPast c from l (q .at)
       pub some : least ≤ length l
       pub past : at + length l ≤ q .at
       pub inside : q .at ≤ length s
 
-    pub known : (least at c : ℕ) (from : Place) (r : Read A) (q : Place) → After least at r → passed c from r ≡ Reached q → Known least at c from r q
+    pub known : (least at c : ℕ) (from : Progress) (r : Read A) (q : Progress) → After least at r → passedOver c from r ≡ Reached q → Known least at c from r q
     known least at c from (reached l next rest) q a e =
-        let eq : moved c from l next ≡ q = cc in
-        let en : next ≡ q .at = ap (λ (x : Place). x .at) eq in
+        let eq : movedPast c from l next ≡ q = cc in
+        let en : next ≡ q .at = ap (λ (x : Progress). x .at) eq in
         record {
           l = l;
           is = rw (a .left, en);
@@ -106,45 +106,45 @@ module _ {A : Type 0} (s : List A) where
         }
     known least at c from (breach place) q a e = let z : _≡_ {A = ℕ} 0 1 = cc in absurd (omega arith)
 
-    breach-known : (c : ℕ) (from : Place) (r : Read A) (place : ℕ) → passed c from r ≡ Breach place → r ≡ breach place
+    breach-known : (c : ℕ) (from : Progress) (r : Read A) (place : ℕ) → passedOver c from r ≡ Breach place → r ≡ breach place
     breach-known c from (reached l next rest) place e = cc
     breach-known c from (breach p) place e = cc
 
     -- a turn of the hall reader, from a place on
-    module _ (c levels n i : ℕ) (p : Place) (h : PlaceIn p (length s)) where
+    module _ (c levels n i : ℕ) (p : Progress) (h : ProgressIn p (length s)) where
       abbrev Here : Read A
       Here = entryOf head levels (p .at) (p .chutes) (drop (p .at) s)
 
-      abbrev Left : ℕ → Place → Read A
+      abbrev Left : ℕ → Progress → Read A
       Left m q = entriesOf head levels m (q .at) (q .chutes) (drop (q .at) s)
 
-      module _ (q : Place) (e : passed c p Here ≡ Reached q) where
+      module _ (q : Progress) (e : passedOver c p Here ≡ Reached q) where
         turn-known : Known 1 (p .at) c p Here q
         turn-known = known 1 (p .at) c p Here q (after-entry levels (p .at) (p .chutes) (h .inside)) e
 
-        pub turn-in : PlaceIn q (length s)
+        pub turn-in : ProgressIn q (length s)
         turn-in =
             let w = turn-known in
-            let en : q .entries ≡ p .entries + length (w .l) = ap (λ (x : Place). x .entries) (w .place) in
+            let en : q .entries ≡ p .entries + length (w .l) = ap (λ (x : Progress). x .entries) (w .place) in
             record { counted = omega (arith, w .past, h .counted); inside = w .inside }
 
         pub turn-less : length s - q .at < length s - p .at
         turn-less = let w = turn-known in omega (arith, w .past, w .some, w .inside)
 
-        pub turn : i < n → passed c p (Left (n - i) p) ≡ passed c q (Left (n - (i + 1)) q)
+        pub turn : i < n → passedOver c p (Left (n - i) p) ≡ passedOver c q (Left (n - (i + 1)) q)
         unfolding entriesWith
         turn g =
             let k : n - i ≡ suc (n - (i + 1)) = omega arith in
             let w = turn-known in
-            let ec : q .chutes ≡ p .chutes + length (destinations (w .l)) = ap (λ (x : Place). x .chutes) (w .place) in
+            let ec : q .chutes ≡ p .chutes + length (destinations (w .l)) = ap (λ (x : Progress). x .chutes) (w .place) in
             let rest : Read A = Left (n - (i + 1)) q in
-            rw (k, w .is, ← ec) (passed-prepend c p (w .l) (q .at) rest ∙ ap (λ (x : Place). passed c x rest) (sym (w .place)))
+            rw (k, w .is, ← ec) (passed-prepend c p (w .l) (q .at) rest ∙ ap (λ (x : Progress). passedOver c x rest) (sym (w .place)))
 
-      pub turn-bad : (place : ℕ) → i < n → passed c p Here ≡ Breach place → passed c p (Left (n - i) p) ≡ Breach place
+      pub turn-bad : (place : ℕ) → i < n → passedOver c p Here ≡ Breach place → passedOver c p (Left (n - i) p) ≡ Breach place
       unfolding entriesWith
       turn-bad place g e = let k : n - i ≡ suc (n - (i + 1)) = omega arith in rw (k, breach-known c p Here place e)
 
-      pub turn-end : n ≤ i → passed c p (Left (n - i) p) ≡ Reached p
+      pub turn-end : n ≤ i → passedOver c p (Left (n - i) p) ≡ Reached p
       unfolding entriesWith
       turn-end g = let k : n - i ≡ zero = omega arith in rw k (ap Reached (moved-none c p))
 
@@ -154,9 +154,9 @@ module _ {A : Type 0} (s : List A) where
     inner-more (suc levels) n at chutes t h = let k : suc levels - 1 ≡ levels = omega arith in rw k
 
     -- an entry, by what stands first
-    module _ (c levels : ℕ) (p : Place) where
+    module _ (c levels : ℕ) (p : Progress) where
       pub entry-chute : (k v next : ℕ) (rest : List A) → head levels (p .chutes) (p .at) (drop (p .at) s) ≡ first k v next rest → k ≡ chuteKind
-          → passed c p (entryOf head levels (p .at) (p .chutes) (drop (p .at) s)) ≡ Reached (moved c p (entry chuteKind v ∷ []) next)
+          → passedOver c p (entryOf head levels (p .at) (p .chutes) (drop (p .at) s)) ≡ Reached (movedPast c p (entry chuteKind v ∷ []) next)
       entry-chute k v next rest e z = rw (e, z)
 
       abbrev Inner : ℕ → ℕ → Read A
@@ -164,11 +164,11 @@ module _ {A : Type 0} (s : List A) where
 
       pub entry-hall : (k v next : ℕ) → head levels (p .chutes) (p .at) (drop (p .at) s) ≡ first k v next (drop next s) → (k ≡ chuteKind → ⊥)
           → 1 ≤ levels
-          → passed c p (entryOf head levels (p .at) (p .chutes) (drop (p .at) s)) ≡ passed c (insideHall p next) (Inner v next)
+          → passedOver c p (entryOf head levels (p .at) (p .chutes) (drop (p .at) s)) ≡ passedOver c (insideHall p next) (Inner v next)
       entry-hall k v next e n h =
           rw (e, ne-eqb _ _ n, inner-more levels v next (p .chutes) (drop next s) h)
-          (passed-prepend c p (entry k v ∷ []) next (Inner v next) ∙ ap (λ (x : Place). passed c x (Inner v next)) (moved-hall c p k v next n))
+          (passed-prepend c p (entry k v ∷ []) next (Inner v next) ∙ ap (λ (x : Progress). passedOver c x (Inner v next)) (moved-hall c p k v next n))
 
       pub entry-wrong : (place : ℕ) → head levels (p .chutes) (p .at) (drop (p .at) s) ≡ wrong place
-          → passed c p (entryOf head levels (p .at) (p .chutes) (drop (p .at) s)) ≡ Breach place
+          → passedOver c p (entryOf head levels (p .at) (p .chutes) (drop (p .at) s)) ≡ Breach place
       entry-wrong place e = rw e

@@ -12,7 +12,7 @@ use Rattle.plan_read.specs.Plan.{planNumber}
 use Rattle.hall_entry.specs.Limits.{levelsBelow}
 use Rattle.hall_entry.specs.Entries.{Read, reached, breach, entriesOf}
 use Rattle.hall_entry.specs.Bytes.{byteHead}
-use Rattle.hall_read.specs.Halls.{HallPlan, halls, refused, ending, withOuter, hallsOf}
+use Rattle.hall_read.specs.Halls.{HallPlan, halls, refused, nothingAfter, withOuter, hallsOf}
 
 abbrev pub Numbered : HallPlan → Type 0
 Numbered (halls outer l) = Unit
@@ -22,7 +22,7 @@ pub plan-numbered : (s : List ℕ) → Numbered (hallsOf s)
 unfolding hallsOf
 plan-numbered s = go (ltb maxPlan (length s))
   where
-    of-ending : (outer : ℕ) (r : Read ℕ) → Numbered (ending outer r)
+    of-ending : (outer : ℕ) (r : Read ℕ) → Numbered (nothingAfter outer r)
     of-ending outer (reached l next []) = tt
     of-ending outer (reached l next (b ∷ rest)) = omega arith
     of-ending outer (breach place) = omega arith

@@ -14,7 +14,7 @@ use Rattle.hall_entry.specs.Laws.Heads.{HeadKnown, head-known, head-wrong}
 use Rattle.hall_read.specs.declared.Pass.the-variants.{Reached}
 use Rattle.hall_read.specs.Laws.Reading.{turn-bad, turn-less, turn-in, turn, turn-end, entry-chute, entry-hall, entry-wrong}
 use Rattle.hall_check.specs.Lists.{pairs, listHead}
-use Rattle.hall_check.specs.Passing.{hallPassed, ListsPlace}
+use Rattle.hall_check.specs.Passing.{hallPassed, ProgressInLists}
 use Rattle.hall_check.specs.Laws.Pairs.{length-pairs}
 use Rattle.hall_check.specs.Laws.Heads.{list-heads}
 use Rattle.hall_check.proofs.Lists.{past-chute}
@@ -55,7 +55,7 @@ hall-claims t = (check-entry-below t, check-entry.Post)
 
 abbrev Inv : check-hall-lts.InvT-loop
 Inv kinds values count levels place₀ i₀ place i =
-    (i ≤ count) × (ListsPlace kinds values place × (hallPassed levels (count - i) place kinds values ≡ hallPassed levels count place₀ kinds values))
+    (i ≤ count) × (ProgressInLists kinds values place × (hallPassed levels (count - i) place kinds values ≡ hallPassed levels count place₀ kinds values))
 
 abbrev μ-loop : check-hall-lts.MeasureT-loop
 μ-loop kinds values count levels place₀ i₀ place i = length (pairs kinds values) - place .at
@@ -81,7 +81,7 @@ module _ (t : ℕ) where
       let g = c .kind .given .0 in
       head-known l (a .levels) (a .from .chutes) (a .from .at) (g .0) (g .1 .0) (g .1 .1 .0)
       (listHead (a .levels) (a .from .chutes) (a .from .at) (drop (a .from .at) l))
-      (list-heads l (a .levels) (a .from .chutes) (a .from .at) (start c .pre .1 .place .inside))
+      (list-heads l (a .levels) (a .from .chutes) (a .from .at) (start c .pre .1 .within .inside))
       (sym (c .before .before .list-head .ensures) ∙ c .kind .given .1)
 
   -- one entry more is no more than the entries that the lists hold
@@ -89,7 +89,7 @@ module _ (t : ℕ) where
   counted c =
       let a = start c .args in
       let p = start c .pre .1 in
-      omega (arith, known-head c .past, known-head c .inside, p .place .counted, length-pairs (now (a .kinds)) (now (a .values)) (p .equal))
+      omega (arith, known-head c .past, known-head c .inside, p .within .counted, length-pairs (now (a .kinds)) (now (a .values)) (p .equal))
 
   entry-returns : check-entry-lts.Need-returns (entry-claims t) (check-entry-at t) check-entry.Post
   entry-returns c =
@@ -107,7 +107,7 @@ module _ (t : ℕ) where
       let h = known-head w in
       let p = start w .pre in (
         omega (arith, p .0, h .kind .hall (c .if1 .left)),
-        record { equal = p .1 .equal; place = record { counted = omega (arith, h .past, p .1 .place .counted); inside = h .inside } },
+        record { equal = p .1 .equal; within = record { counted = omega (arith, h .past, p .1 .within .counted); inside = h .inside } },
       )
 
   entry-returns-2 : check-entry-lts.Need-returns-2 (entry-claims t) (check-entry-at t) check-entry.Post
@@ -148,7 +148,7 @@ module _ (t : ℕ) where
       let l = pairs (now (a .kinds)) (now (a .values)) in
       let told = c .enum-told .given in
       told .1
-      ∙ sym (turn-bad l listHead (list-heads l) 0 (a .levels) (a .count) (i .i) (i .place) (i .inv .1 .0 .place) (told .0 .0) (r .before .loop-test .taken)
+      ∙ sym (turn-bad l listHead (list-heads l) 0 (a .levels) (a .count) (i .i) (i .progress) (i .inv .1 .0 .within) (told .0 .0) (r .before .loop-test .taken)
       (sym (r .check-entry .ensures) ∙ told .1))
       ∙ i .inv .1 .1
 
@@ -159,7 +159,7 @@ module _ (t : ℕ) where
       let i = r .before .before .loop in
       let l = pairs (now (a .kinds)) (now (a .values)) in
       let got = c .before .step .given in
-      turn-less l listHead (list-heads l) 0 (a .levels) (a .count) (i .i) (i .place) (i .inv .1 .0 .place) (got .0 .0)
+      turn-less l listHead (list-heads l) 0 (a .levels) (a .count) (i .i) (i .progress) (i .inv .1 .0 .within) (got .0 .0)
       (sym (r .check-entry .ensures) ∙ got .1)
 
   loop-again : check-hall-lts.Need-loop-again (hall-claims t) (check-hall-at t) check-hall.Post Inv μ-loop
@@ -171,11 +171,11 @@ module _ (t : ℕ) where
       let got = c .before .step .given in
       let e = sym (r .check-entry .ensures) ∙ got .1 in
       let less = r .before .loop-test .taken in
-      let place = i .inv .1 .0 .place in (
+      let within = i .inv .1 .0 .within in (
         omega (arith, less),
         (
-          record { equal = i .inv .1 .0 .equal; place = turn-in l listHead (list-heads l) 0 (a .levels) (a .count) (i .i) (i .place) place (got .0 .0) e },
-          sym (turn l listHead (list-heads l) 0 (a .levels) (a .count) (i .i) (i .place) place (got .0 .0) e less) ∙ i .inv .1 .1,
+          record { equal = i .inv .1 .0 .equal; within = turn-in l listHead (list-heads l) 0 (a .levels) (a .count) (i .i) (i .progress) within (got .0 .0) e },
+          sym (turn l listHead (list-heads l) 0 (a .levels) (a .count) (i .i) (i .progress) within (got .0 .0) e less) ∙ i .inv .1 .1,
         ),
       )
 
@@ -184,7 +184,7 @@ module _ (t : ℕ) where
       let a = c .before .before .before .before .args in
       let i = c .before .loop in
       let l = pairs (now (a .kinds)) (now (a .values)) in
-      sym (turn-end l listHead (list-heads l) 0 (a .levels) (a .count) (i .i) (i .place) (i .inv .1 .0 .place) (c .loop-test .left)) ∙ i .inv .1 .1
+      sym (turn-end l listHead (list-heads l) 0 (a .levels) (a .count) (i .i) (i .progress) (i .inv .1 .0 .within) (c .loop-test .left)) ∙ i .inv .1 .1
 
 pub +check-entry+check-hall-spec : {M : Type 1} → statement M
 +check-entry+check-hall-spec =

@@ -8,7 +8,7 @@ use lib.ListN.{length, drop}
 use Rattle.hall_entry.specs.Bytes.{byteHead}
 use Rattle.hall_entry.specs.Laws.Heads.{head-known, head-wrong}
 use Rattle.hall_entry.specs.Laws.Bytes.{byte-heads}
-use Rattle.hall_lists.proofs.Filling.{Filling, filling-more, filling-done, flat-stop, flat-end}
+use Rattle.hall_lists.proofs.Filling.{Filling, filling-more, filling-done, sequence-stop, sequence-end}
 use Rattle.hall_lists.proofs.fill.fill_lists.Statement.{statement}
 use Rattle.hall_lists.proofs.fill.fill_lists.Tie as tie
 
@@ -45,7 +45,7 @@ returns c =
     let s = now (h .before .before .before .before .before .before .args .plan) in
     let told = c .enum-told .given in
     filling-done (l .inv)
-    (flat-stop s _ (l .i) (l .at) (told .0 .0) (h .before .loop-test .taken) (head-wrong _ (told .0 .0) (sym (h .head-at .ensures .answer) ∙ told .1)))
+    (sequence-stop s _ (l .i) (l .at) (told .0 .0) (h .before .loop-test .taken) (head-wrong _ (told .0 .0) (sym (h .head-at .ensures .answer) ∙ told .1)))
 
 slice-write-kinds : tie.Need-slice-write-kinds Inv-loop μ-loop
 slice-write-kinds c =
@@ -78,7 +78,7 @@ same-length-4 c = c .before .loop .inv .values-length
 returns-2 : tie.Need-returns-2 Inv-loop μ-loop
 returns-2 c =
     let l = c .before .loop in
-    filling-done (l .inv) (flat-end (now (c .before .before .before .before .before .args .plan)) _ (l .i) (l .at) (c .loop-test .left))
+    filling-done (l .inv) (sequence-end (now (c .before .before .before .before .before .args .plan)) _ (l .i) (l .at) (c .loop-test .left))
 
 pub fill-lists-spec : {M : Type 1} → statement M
 fill-lists-spec =

@@ -12,8 +12,8 @@ use Rattle.hall_entry.specs.Entries.{entriesOf}
 use Rattle.hall_entry.specs.Bytes.{byteHead}
 use Rattle.hall_entry.specs.Laws.Heads.{HeadKnown, head-known, head-wrong}
 use Rattle.hall_entry.specs.Laws.Bytes.{byte-heads}
-use Rattle.hall_read.specs.Passing.{passed, PlaceIn}
-use Rattle.hall_read.specs.declared.Place.{Place}
+use Rattle.hall_read.specs.Passing.{passedOver, ProgressIn}
+use Rattle.hall_read.specs.declared.Progress.{Progress}
 use Rattle.hall_read.specs.declared.Pass.the-variants.{Reached}
 use Rattle.hall_read.specs.Laws.Reading.{turn-bad, turn-less, turn-in, turn, turn-end, entry-chute, entry-hall, entry-wrong}
 use Rattle.hall_read.proofs.passing.read_entry.Reads as read-entry
@@ -65,9 +65,9 @@ hall-claims t = (read-entry-below t, read-entry.Post)
 abbrev Inv : read-hall-lts.InvT-loop
 Inv plan count levels chute place₀ i₀ place i =
     (i ≤ count)
-    × (PlaceIn place (length plan)
-    × (passed chute place (entriesOf byteHead levels (count - i) (place .at) (place .chutes) (drop (place .at) plan))
-    ≡ passed chute place₀ (entriesOf byteHead levels count (place₀ .at) (place₀ .chutes) (drop (place₀ .at) plan))))
+    × (ProgressIn place (length plan)
+    × (passedOver chute place (entriesOf byteHead levels (count - i) (place .at) (place .chutes) (drop (place .at) plan))
+    ≡ passedOver chute place₀ (entriesOf byteHead levels count (place₀ .at) (place₀ .chutes) (drop (place₀ .at) plan))))
 
 abbrev μ-loop : read-hall-lts.MeasureT-loop
 μ-loop plan count levels chute place₀ i₀ place i = length plan - place .at
@@ -113,8 +113,8 @@ module _ (t : ℕ) where
   read-hall-requires c κs =
       let w = c .before .before .before in
       let start = w .before .before .before .before in
-      let en : c .into-hall .result .entries ≡ start .args .from .entries + 1 = ap (λ (q : Place). q .entries) (c .into-hall .ensures) in
-      let ea : c .into-hall .result .at ≡ w .kind .given .0 .1 .1 .0 = ap (λ (q : Place). q .at) (c .into-hall .ensures) in (
+      let en : c .into-hall .result .entries ≡ start .args .from .entries + 1 = ap (λ (q : Progress). q .entries) (c .into-hall .ensures) in
+      let ea : c .into-hall .result .at ≡ w .kind .given .0 .1 .1 .0 = ap (λ (q : Progress). q .at) (c .into-hall .ensures) in (
         omega (arith, start .pre .0, known-head w .kind .hall (c .before .if1 .left)),
         record { counted = omega (arith, known-head w .past, start .pre .1 .counted); inside = omega (arith, known-head w .inside) },
       )
@@ -127,7 +127,7 @@ module _ (t : ℕ) where
       let g = w .kind .given .0 in
       let n = c .before .before .if1 .left in
       c .read-hall .ensures
-      ∙ ap (λ (q : Place). passed (a .chute) q (entriesOf byteHead (a .levels - 1) (g .1 .0) (q .at) (q .chutes) (drop (q .at) s)))
+      ∙ ap (λ (q : Progress). passedOver (a .chute) q (entriesOf byteHead (a .levels - 1) (g .1 .0) (q .at) (q .chutes) (drop (q .at) s)))
       (c .before .into-hall .ensures)
       ∙ sym (entry-hall s byteHead (byte-heads s) (a .chute) (a .levels) (a .from) (g .0) (g .1 .0) (g .1 .1 .0) (known-head w .is) n
       (known-head w .kind .hall n))
@@ -154,7 +154,7 @@ module _ (t : ℕ) where
       let s = now (a .plan) in
       let told = c .enum-told .given in
       told .1
-      ∙ sym (turn-bad s byteHead (byte-heads s) (a .chute) (a .levels) (a .count) (l .i) (l .place) (l .inv .1 .0) (told .0 .0) (r .before .loop-test .taken)
+      ∙ sym (turn-bad s byteHead (byte-heads s) (a .chute) (a .levels) (a .count) (l .i) (l .progress) (l .inv .1 .0) (told .0 .0) (r .before .loop-test .taken)
       (sym (r .read-entry .ensures) ∙ told .1))
       ∙ l .inv .1 .1
 
@@ -165,7 +165,7 @@ module _ (t : ℕ) where
       let l = r .before .before .loop in
       let s = now (a .plan) in
       let got = c .before .step .given in
-      turn-less s byteHead (byte-heads s) (a .chute) (a .levels) (a .count) (l .i) (l .place) (l .inv .1 .0) (got .0 .0)
+      turn-less s byteHead (byte-heads s) (a .chute) (a .levels) (a .count) (l .i) (l .progress) (l .inv .1 .0) (got .0 .0)
       (sym (r .read-entry .ensures) ∙ got .1)
 
   loop-again : read-hall-lts.Need-loop-again (hall-claims t) (read-hall-at t) read-hall.Post Inv μ-loop
@@ -179,8 +179,8 @@ module _ (t : ℕ) where
       let less = r .before .loop-test .taken in (
         omega (arith, less),
         (
-          turn-in s byteHead (byte-heads s) (a .chute) (a .levels) (a .count) (l .i) (l .place) (l .inv .1 .0) (got .0 .0) e,
-          sym (turn s byteHead (byte-heads s) (a .chute) (a .levels) (a .count) (l .i) (l .place) (l .inv .1 .0) (got .0 .0) e less) ∙ l .inv .1 .1,
+          turn-in s byteHead (byte-heads s) (a .chute) (a .levels) (a .count) (l .i) (l .progress) (l .inv .1 .0) (got .0 .0) e,
+          sym (turn s byteHead (byte-heads s) (a .chute) (a .levels) (a .count) (l .i) (l .progress) (l .inv .1 .0) (got .0 .0) e less) ∙ l .inv .1 .1,
         ),
       )
 
@@ -189,7 +189,7 @@ module _ (t : ℕ) where
       let a = c .before .before .before .args in
       let l = c .before .loop in
       let s = now (a .plan) in
-      sym (turn-end s byteHead (byte-heads s) (a .chute) (a .levels) (a .count) (l .i) (l .place) (l .inv .1 .0) (c .loop-test .left)) ∙ l .inv .1 .1
+      sym (turn-end s byteHead (byte-heads s) (a .chute) (a .levels) (a .count) (l .i) (l .progress) (l .inv .1 .0) (c .loop-test .left)) ∙ l .inv .1 .1
 
 pub +read-entry+read-hall-spec : {M : Type 1} → statement M
 +read-entry+read-hall-spec =

@@ -15,8 +15,8 @@ use Rattle.hall_entry.specs.Entries.{Entry, entry, chuteKind, kindAllowed, Head
 use Rattle.hall_entry.specs.Bytes.{valued, judged, byteHead}
 use Rattle.hall_entry.specs.Laws.Induction.{AllGood, reads-good}
 use Rattle.hall_entry.specs.Laws.Bytes.{NumberAfter, number-inside}
-use Rattle.hall_read.specs.Halls.{HallPlan, halls, refused, ending, withOuter, hallsOf}
-use Rattle.hall_lists.specs.Flat.{entriesStart, consEntry, flat}
+use Rattle.hall_read.specs.Halls.{HallPlan, halls, refused, nothingAfter, withOuter, hallsOf}
+use Rattle.hall_lists.specs.Sequence.{entriesStart, consEntry, inSequence}
 
 -- an entry that may stand somewhere stands first where nothing limits it
 free-zero : (b : Bool) (h : Head ℕ) (at k v next : ℕ) (rest : List ℕ) → cond b h (wrong at) ≡ first k v next rest → h ≡ first k v next rest
@@ -39,52 +39,52 @@ free-head levels chutes at s k v next rest e = go (planNumber at s) e
     go (bad place) q = q
 
 -- what was read from s on is what stands there one after another
-abbrev FlatRead : (levels n at chutes : ℕ) → List ℕ → List Entry → ℕ → List ℕ → Type 0
-FlatRead levels n at chutes s l next rest = (m : ℕ) → flat (length l + m) at s ≡ l ++ flat m next rest
+abbrev SequenceRead : (levels n at chutes : ℕ) → List ℕ → List Entry → ℕ → List ℕ → Type 0
+SequenceRead levels n at chutes s l next rest = (m : ℕ) → inSequence (length l + m) at s ≡ l ++ inSequence m next rest
 
-flat-first : (levels chutes at : ℕ) (s : List ℕ) (k v mid : ℕ) (t : List ℕ) (l : List Entry) (m : ℕ) → byteHead levels chutes at s ≡ first k v mid t
-    → flat (suc (length l) + m) at s ≡ entry k v ∷ flat (length l + m) mid t
-unfolding flat
-flat-first levels chutes at s k v mid t l m e =
+sequence-first : (levels chutes at : ℕ) (s : List ℕ) (k v mid : ℕ) (t : List ℕ) (l : List Entry) (m : ℕ) → byteHead levels chutes at s ≡ first k v mid t
+    → inSequence (suc (length l) + m) at s ≡ entry k v ∷ inSequence (length l + m) mid t
+unfolding inSequence
+sequence-first levels chutes at s k v mid t l m e =
     let z : suc (length l) + m ≡ suc (length l + m) = omega arith in
     rw (z, free-head levels chutes at s k v mid t e)
 
-flat-entries : (levels n at chutes : ℕ) (s : List ℕ) → AllGood byteHead FlatRead levels n at chutes s (entriesOf byteHead levels n at chutes s)
-flat-entries =
-    reads-good byteHead FlatRead
+sequence-entries : (levels n at chutes : ℕ) (s : List ℕ) → AllGood byteHead SequenceRead levels n at chutes s (entriesOf byteHead levels n at chutes s)
+sequence-entries =
+    reads-good byteHead SequenceRead
     (λ levels at chutes s m. let z : 0 + m ≡ m = omega arith in rw z)
     (λ levels n at chutes s v mid t l next rest e g m.
-    flat-first levels chutes at s chuteKind v mid t l m e ∙ ap (λ (x : List Entry). entry chuteKind v ∷ x) (g m))
+    sequence-first levels chutes at s chuteKind v mid t l m e ∙ ap (λ (x : List Entry). entry chuteKind v ∷ x) (g m))
     (λ levels n at chutes s k v mid t inner past u l next rest e o i g m.
     let z : length inner + length l + m ≡ length inner + (length l + m) = omega arith in
-    flat-first (suc levels) chutes at s k v mid t (inner ++ l) m e
+    sequence-first (suc levels) chutes at s k v mid t (inner ++ l) m e
     ∙ ap (λ (x : List Entry). entry k v ∷ x)
-    (rw (length-append inner l, z, append-assoc inner l (flat m next rest)) (i (length l + m) ∙ ap (λ (x : List Entry). inner ++ x) (g m))))
+    (rw (length-append inner l, z, append-assoc inner l (inSequence m next rest)) (i (length l + m) ∙ ap (λ (x : List Entry). inner ++ x) (g m))))
 
 -- of a whole hall plan
-abbrev pub FlatPlan : List ℕ → HallPlan → Type 0
-FlatPlan s (halls outer l) = let start = entriesStart (planNumber 0 s) in (start ≤ length s) × (flat (length l) start (drop start s) ≡ l)
-FlatPlan s (refused n place) = Unit
+abbrev pub SequencePlan : List ℕ → HallPlan → Type 0
+SequencePlan s (halls outer l) = let start = entriesStart (planNumber 0 s) in (start ≤ length s) × (inSequence (length l) start (drop start s) ≡ l)
+SequencePlan s (refused n place) = Unit
 
-flat-ending : (s : List ℕ) (outer at : ℕ) (t : List ℕ) (r : Read ℕ) → entriesStart (planNumber 0 s) ≡ at → at ≤ length s → t ≡ drop at s
-    → AllGood byteHead FlatRead levelsBelow outer at 0 t r → FlatPlan s (ending outer r)
-unfolding flat
-flat-ending s outer at t (reached l next []) e h q f =
+sequence-ending : (s : List ℕ) (outer at : ℕ) (t : List ℕ) (r : Read ℕ) → entriesStart (planNumber 0 s) ≡ at → at ≤ length s → t ≡ drop at s
+    → AllGood byteHead SequenceRead levelsBelow outer at 0 t r → SequencePlan s (nothingAfter outer r)
+unfolding inSequence
+sequence-ending s outer at t (reached l next []) e h q f =
     let z : length l + 0 ≡ length l = omega arith in
-    let w : flat (length l) at t ≡ l = rw z at (f 0) ∙ append-nil l in
+    let w : inSequence (length l) at t ≡ l = rw z at (f 0) ∙ append-nil l in
     rw e (h, rw (← q) w)
-flat-ending s outer at t (reached l next (b ∷ rest)) e h q f = tt
-flat-ending s outer at t (breach place) e h q f = tt
+sequence-ending s outer at t (reached l next (b ∷ rest)) e h q f = tt
+sequence-ending s outer at t (breach place) e h q f = tt
 
-flat-outer : (s : List ℕ) (p : Parsed) → planNumber 0 s ≡ p → NumberAfter s 0 p → FlatPlan s (withOuter p)
-flat-outer s (value n next rest) e u =
-    flat-ending s n next rest (entriesOf byteHead levelsBelow n next 0 rest) (ap entriesStart e) (u .inside) (u .left) (flat-entries levelsBelow n next 0 rest)
-flat-outer s (bad place) e u = tt
+sequence-outer : (s : List ℕ) (p : Parsed) → planNumber 0 s ≡ p → NumberAfter s 0 p → SequencePlan s (withOuter p)
+sequence-outer s (value n next rest) e u =
+    sequence-ending s n next rest (entriesOf byteHead levelsBelow n next 0 rest) (ap entriesStart e) (u .inside) (u .left) (sequence-entries levelsBelow n next 0 rest)
+sequence-outer s (bad place) e u = tt
 
-pub flat-plan : (s : List ℕ) → FlatPlan s (hallsOf s)
+pub sequence-plan : (s : List ℕ) → SequencePlan s (hallsOf s)
 unfolding hallsOf
-flat-plan s = go (ltb maxPlan (length s))
+sequence-plan s = go (ltb maxPlan (length s))
   where
-    go : (b : Bool) → FlatPlan s (cond b (refused inputTooLong 0) (withOuter (planNumber 0 s)))
+    go : (b : Bool) → SequencePlan s (cond b (refused inputTooLong 0) (withOuter (planNumber 0 s)))
     go true = tt
-    go false = flat-outer s (planNumber 0 s) refl (number-inside s 0 (omega arith))
+    go false = sequence-outer s (planNumber 0 s) refl (number-inside s 0 (omega arith))

@@ -18,16 +18,16 @@ consEntry (first k v next rest) more = entry k v ∷ more next rest
 consEntry (wrong place) more = []
 
 -- n entries at the place `at`; a level is left and no chute stands before, so that either kind may stand
-unfoldable pub flat : ℕ → ℕ → List ℕ → List Entry
-flat zero at s = []
-flat (suc n) at s = consEntry (byteHead 1 0 at s) (λ next rest. flat n next rest)
+unfoldable pub inSequence : ℕ → ℕ → List ℕ → List Entry
+inSequence zero at s = []
+inSequence (suc n) at s = consEntry (byteHead 1 0 at s) (λ next rest. inSequence n next rest)
 
 -- what the stores of entries ask of their caller: a place inside the plan, and lists of equal length. No public contract cites it.
 pub record ListsRoom (start : ℕ) (s kinds values : List ℕ) : Type 0 where
   pub inside : start ≤ length s
   pub equal : length values ≡ length kinds
 
--- the stores of entries from a place of s on, as many as the lists have places, leave `k` and `v` in them
+-- the stores of entries from a place of s on, as many as the lists have elements, leave `k` and `v` in them
 pub record StoresEntries (start : ℕ) (s kinds values k v : List ℕ) : Type 0 where
-  pub kinds-stored : k ≡ sets kinds 0 (kindsOf (flat (length kinds) start (drop start s)))
-  pub values-stored : v ≡ sets values 0 (valuesOf (flat (length kinds) start (drop start s)))
+  pub kinds-stored : k ≡ sets kinds 0 (kindsOf (inSequence (length kinds) start (drop start s)))
+  pub values-stored : v ≡ sets values 0 (valuesOf (inSequence (length kinds) start (drop start s)))
