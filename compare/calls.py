@@ -37,7 +37,7 @@ KINDS = {
     hall_calls.read_into: 8,
     hall_calls.write: 7,
 }
-LIMITS = (limit_calls.one_shot, limit_calls.session, limit_calls.seal, limit_calls.draw)
+LIMITS = (limit_calls.one_shot, limit_calls.session, limit_calls.seal, limit_calls.draw, hall_calls.too_many_entries)
 
 
 def lines(rng, count, small):

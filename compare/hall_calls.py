@@ -5,7 +5,7 @@ import plan
 import plan_calls
 from callfile import pattern, written
 from choose import SEED
-from plan_calls import FAR, LARGEST, destination
+from plan_calls import FAR, LARGEST, destination, in_three_groups
 
 LEVELS, CHUTES = 8, 4_096
 OTHER_KINDS = [2, 3, 127, 128, 255, 256, 257, 65_536, LARGEST]  # some are 0 or 1 in their lowest byte
@@ -49,7 +49,7 @@ def some_halls(rng):
 
 def padded_sometimes(rng):
     """A writer of numbers, some of them in more groups than they need."""
-    return lambda value: plan_calls.in_three_groups(value) if rng.random() < 0.3 else plan.written_number(value)
+    return lambda value: in_three_groups(value) if rng.random() < 0.3 else plan.written_number(value)
 
 
 def numbers_of(halls):
@@ -173,9 +173,27 @@ def limits(rng):
             yield from into_of(lent, *lengths)
         for chute in (0, 1, CHUTES, CHUTES + 1, 2**32 + 1):
             yield from look_of(lent, chute)
-    for lists in ((1, [0], [LARGEST]), (1, [0], [LARGEST + 1]), (2**32 + 1, [0], [7]), (LARGEST, [0], [7]), (LARGEST + 1, [0], [7])):
-        yield from write_of(lists, 5 if lists[0] == 1 else 3)
+    for kind in (0, 1, *OTHER_KINDS):
+        yield from read_of(bytes([1]) + plan.written_number(kind) + bytes([0]))
+        yield from into_of(bytes([1]) + in_three_groups(kind) + bytes([0]), 1, 1)
+        yield from write_of((1, [kind % 256], [0]), 3)
+    for outer, value in ((1, LARGEST), (1, LARGEST + 1), (2**32 + 1, 7), (LARGEST, 7), (LARGEST + 1, 7)):
+        yield from write_of((outer, [0], [value]), 5 if outer == 1 else 3)
+    yield from long_writes()
+
+
+def long_writes():
+    """Lists whose plan is around the limit of bytes or has chutes around theirs, and long ones that promise an entry more or less than follow."""
     for halls in (LONGEST, [[]] * 32_767, [0] * CHUTES, [0] * (CHUTES + 1)):
         length = len(hall.bytes_of(halls))
         for lent in (length - 1, length, length + 1, SEED, SEED + 1):
             yield from write_of(lists_of(halls), lent)
+    for count in (32_766, 32_768):
+        yield from write_of((count, [1] * 32_767, [0] * 32_767), SEED + 1)
+
+
+def too_many_entries(rng):
+    """Lists of one entry more than a number can say, in the outermost hall and in one within it: they break the rules, so they are not just too long."""
+    count = LARGEST + 1
+    for lists in ((count, [1] * count, [0] * count), (1, [1] * (count + 1), [count] + [0] * count)):
+        yield written("hall_length", lists, hall.length(*lists))
