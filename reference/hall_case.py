@@ -1,12 +1,13 @@
 """A case of the program hall_cases: how it is written down, and what it must be answered with."""
 import functools
+from itertools import product
 
 import hall
 import plan
 from plan_cases import added, write_plan
 
 hall.halls = functools.lru_cache(maxsize=16)(hall.halls)  # the same plan is asked for many chutes
-ZEROS, ONES = 2**24, 2**25  # from here on a number of bytes means zeros, and from here on ones
+ZEROS = 2**24  # from here on a number of bytes means zeros
 ROOM, BUFFER = 33_000, 65_539  # elements of a list and bytes of a buffer, of which a part is lent
 UNTOUCHED, UNTOUCHED_VALUE = 0xEE, 0xEEEEEEEE  # what lists and buffers hold first
 
@@ -48,25 +49,20 @@ class Cases:
         answer = hall.read(data)
         last, n = answer[3], answer[1] if entries is None else entries
         self.put(b"l", data, number=last, length=n)
-        text = "%d:%d:%d:%d " % answer
+        text = "%d:%d %d %d " % answer
         for chute in (0, 1, last, last + 1, 4096, 4097, 2**32 - 1, 2**32, 2**32 + 1):
             text += "%d:%d " % hall.destination(data, chute)
-        more, less = n + 1, max(n - 1, 0)
-        for lengths in ((n, n), (n, more), (more, n), (more, more), (n, less), (less, n), (less, less)):
-            text += read_into(data, *lengths)
+        text += "".join("%d " % read_into(data, *lengths) for lengths in product(around(n), around(n)))
         number, _, outer, _, kinds, values = hall.read_into(data, n, n)
-        if number == 0:
-            number, needed = hall.length(outer, kinds, values)
-            text += "%d:%d " % (number, needed) + write(outer, kinds, values, needed) + write(outer, kinds, values, needed + 1)
-        self.out(text)
+        self.out(text if number else text + write_each(outer, kinds, values, 0))
 
-    def summed(self, data, chutes, length):
-        """All answers for a plan, and lists of this length, taken into the checksum."""
+    def summed(self, data, chutes, length, flat=None):
+        """All answers for a plan, and lists of this length, taken into the checksum; lookups as in the flat plan where one is given."""
         self.put(b"s", data, number=chutes, length=length)
-        *answer, kinds, values = hall.read_into(data, length, length)
-        lists = [*filled(kinds, UNTOUCHED, 32), *filled(values, UNTOUCHED_VALUE, 32)]
-        lookups = [part for chute in range(chutes) for part in hall.destination(data, chute)]
-        self.total = summed([*hall.read(data), *answer, *lists, *lookups], self.total)
+        total = read_into(data, length, length, summed(hall.read(data), self.total))
+        for chute in range(chutes):
+            total = summed(hall.destination(data, chute) if flat is None else plan.destination(flat, chute), total)
+        self.total = total
 
     def end(self):
         """The checksum."""
@@ -75,28 +71,25 @@ class Cases:
         self.total = 0
 
     def flat(self, halls):
-        """All lookups of a hall plan, beside those of the flat plan with its destinations."""
-        rows = write_plan(hall.destinations(halls))
-        chutes = len(hall.destinations(halls)) + 3
-        self.put(b"f", hall.bytes_of(halls), rows, chutes)
-        total = summed(part for chute in range(chutes) for part in plan.destination(rows, chute))
-        self.out(f"{total} {total} ")
+        """All lookups of a hall plan, which are those of the flat plan with its destinations."""
+        rows = hall.destinations(halls)
+        self.summed(hall.bytes_of(halls), len(rows) + 3, len(list(hall.entries_in(halls))), write_plan(rows))
+        self.end()
 
-    def written(self, outer, kinds, values, length=None):
-        """How long the plan of these lists is, and what writing it answers for buffers around this length (the needed one) and around the limit."""
-        lent = hall.length(outer, kinds, values)[1] if length is None else length
-        self.put(b"w", bytes(kinds), b"".join(value.to_bytes(4, "little") for value in values), outer, lent)
-        text = "%d:%d " % hall.length(outer, kinds, values)
-        for size in (lent, lent + 1, max(lent - 1, 0), 0, 65_536, 65_537):
-            text += write(outer, kinds, values, size)
-        self.out(text)
+    def written(self, outer, kinds, values, length=0):
+        """What writing these lists answers for buffers around the needed length, or around this one where they have no plan."""
+        self.put(b"w", bytes(kinds), b"".join(value.to_bytes(4, "little") for value in values), outer, length)
+        self.out(write_each(outer, kinds, values, length))
 
 
 def size_of(part):
     """How many bytes the part has, as a case tells it."""
-    if len(part) < 1_000 or set(part) not in ({0}, {1}):
-        return len(part)
-    return (ONES if part[0] else ZEROS) + len(part)
+    return len(part) if any(part) or len(part) < 1_000 else ZEROS + len(part)
+
+
+def around(length):
+    """One less, this length, and one more."""
+    return max(length - 1, 0), length, length + 1
 
 
 def filled(found, otherwise, length):
@@ -105,16 +98,23 @@ def filled(found, otherwise, length):
     return found + [otherwise] * (length - len(found))
 
 
-def read_into(data, kinds_length, values_length):
-    """What reading into such lists writes: the answer, and both lists with two elements past their end."""
+def read_into(data, kinds_length, values_length, total=0):
+    """The checksum taken on by what reading into such lists answers, and by both lists with two elements past their end."""
     *answer, kinds, values = hall.read_into(data, kinds_length, values_length)
     lists = [*filled(kinds, UNTOUCHED, min(kinds_length + 2, ROOM)), *filled(values, UNTOUCHED_VALUE, values_length + 2)]
-    return "%d:%d:%d:%d " % tuple(answer) + "%d " % summed(lists)
+    return summed([*answer, *lists], total)
 
 
 def write(outer, kinds, values, lent):
-    """What writing into so many bytes writes; a plan that was written is read again."""
+    """What writing into so many bytes answers; a plan that was written is read again."""
     number, data = hall.write(outer, kinds, values, lent)
     if number:
         return "%d:%d " % (number, untouched(lent + 2))
-    return "0:%d " % summed([*data, UNTOUCHED, UNTOUCHED]) + read_into(data, len(kinds), len(values))
+    return "0:%d %d " % (summed([*data, UNTOUCHED, UNTOUCHED]), read_into(data, len(kinds), len(values)))
+
+
+def write_each(outer, kinds, values, otherwise):
+    """How long the lists' plan is, and what writing answers for buffers around that length, or around another where they have no plan."""
+    number, needed = hall.length(outer, kinds, values)
+    lengths = (*around(otherwise if number else needed), 0, 65_536, 65_537)
+    return "%d:%d " % (number, needed) + "".join(write(outer, kinds, values, lent) for lent in lengths)

@@ -101,9 +101,8 @@ def written(cases):
         cases.written(*lists_of(halls))
     for count in (4_096, 4_097):
         cases.written(count, [0] * count, [0] * count, 2 * count + 2)
-    for count in (32_766, 32_767):
-        cases.written(count, [1] * count, [0] * count, 2 * count + 3)
-        cases.written(count + 1, [1] * count, [0] * count, 2 * count + 3)
+    for outer in (32_767, 32_768):
+        cases.written(outer, [1] * 32_767, [0] * 32_767, 65_537)
     cases.heading("not written")
     for outer in (1, 3, 2_097_151, 2_097_152, 2**32 + 2, 2**63 + 2, 2**64 - 1):
         cases.written(outer, [1, 0, 0, 0], [2, 7, 300, 0], 10)

@@ -18,8 +18,8 @@ fn value_at(values: &[u32], i: usize) -> u32 {
     0
 }
 
-// The checksum taken on by the first n elements.
-pub fn add_values(sum: u64, values: &[u32], n: usize) -> u64 {
+// The checksum taken on by the first n values.
+fn add_values(sum: u64, values: &[u32], n: usize) -> u64 {
     let mut all = sum;
     let mut i: usize = 0;
     while i < n {
@@ -29,7 +29,7 @@ pub fn add_values(sum: u64, values: &[u32], n: usize) -> u64 {
     all
 }
 
-// Reads a plan into the first n kinds and the first m values.
+// Reads a plan into the first n kinds and the first m values, of which there are so many.
 pub fn read_into(
     plan: &[u8],
     kinds: &mut [u8],
@@ -37,36 +37,42 @@ pub fn read_into(
     n: usize,
     m: usize,
 ) -> HallSummary {
-    if kinds.len() < n {
-        return hall::read_halls(plan);
+    if n <= kinds.len() {
+        if m <= values.len() {
+            return hall_lists::read_into(plan, &mut kinds[..n], &mut values[..m]);
+        }
     }
-    if values.len() < m {
-        return hall::read_halls(plan);
-    }
-    hall_lists::read_into(plan, &mut kinds[..n], &mut values[..m])
+    hall::read_halls(plan)
 }
 
-// What reading into lists of these lengths answers, and the checksum of both lists with two elements past their end.
-pub fn read(plan: &[u8], n: usize, m: usize) {
+// The checksum taken on by what reading into lists of these lengths answers, and by both lists with two elements past their end.
+pub fn read(sum: u64, plan: &[u8], n: usize, m: usize) -> u64 {
     let mut kinds = kinds_room();
     let mut values = values_room();
-    show::summary(read_into(plan, &mut kinds, &mut values, n, m));
-    let sum = testing::add_bytes(
-        0,
+    let answered = show::add_summary(sum, read_into(plan, &mut kinds, &mut values, n, m));
+    let listed = testing::add_bytes(
+        answered,
         testing::first(&kinds, std::num::wrapping_add_usize(n, 2)),
     );
-    show::field(add_values(sum, &values, std::num::wrapping_add_usize(m, 2)));
+    add_values(listed, &values, std::num::wrapping_add_usize(m, 2))
 }
 
-// The lists as long as they should be, and all mixes with one that is shorter or longer by one.
+// One less than n, n itself, or one more.
+pub fn around(n: usize, k: u32) -> usize {
+    if k == 1 {
+        return n;
+    }
+    if k == 2 {
+        return std::num::wrapping_add_usize(n, 1);
+    }
+    if 0 < n { n - 1 } else { 0 }
+}
+
+// All mixes of lists as long as they should be, shorter by one and longer by one.
 pub fn read_each(plan: &[u8], n: usize) {
-    let more = std::num::wrapping_add_usize(n, 1);
-    let less = if 0 < n { n - 1 } else { 0 };
-    read(plan, n, n);
-    read(plan, n, more);
-    read(plan, more, n);
-    read(plan, more, more);
-    read(plan, n, less);
-    read(plan, less, n);
-    read(plan, less, less);
+    let mut k: u32 = 0;
+    while k < 9 {
+        show::field(read(0, plan, around(n, k / 3), around(n, k % 3)));
+        k += 1;
+    }
 }

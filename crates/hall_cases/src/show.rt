@@ -1,9 +1,5 @@
-// How the answers are written.
+// How the answers are written, and how they are summed up.
 use hall::HallSummary;
-
-pub fn end() {
-    printing::print(b"\n");
-}
 
 // A number and a blank.
 pub fn field(n: u64) {
@@ -11,26 +7,21 @@ pub fn field(n: u64) {
     printing::print(b" ");
 }
 
-fn before(n: u64) {
-    printing::print_number(n);
-    printing::print(b":");
-}
-
 // A refusal and a value.
 pub fn answer(number: u8, value: u64) {
-    before(number as u64);
+    printing::print_number(number as u64);
+    printing::print(b":");
     field(value);
 }
 
 // A refusal and what a hall plan has.
 pub fn summary(found: HallSummary) {
-    before(found.number as u64);
-    before(found.entries as u64);
-    before(found.outer as u64);
+    answer(found.number, found.entries as u64);
+    field(found.outer as u64);
     field(found.chutes as u64);
 }
 
-// The checksum taken on by what a hall plan has.
+// The checksum taken on by a refusal and what a hall plan has.
 pub fn add_summary(sum: u64, found: HallSummary) -> u64 {
     let number = testing::add_number(sum, found.number as u64);
     let entries = testing::add_number(number, found.entries as u64);

@@ -7,8 +7,8 @@ fn buffer_room() -> [u8; 65539] {
     [238u8; 65539]
 }
 
-// What writing into the first `lent` bytes of a buffer answers, its checksum with two bytes past them and, where a plan was written, what reading it into
-// lists answers.
+// What writing into the first `lent` bytes of a buffer answers, the checksum of the buffer with two bytes past them and, where a plan was written, that of
+// reading it into lists.
 fn write_into(outer: u64, kinds: &[u8], values: &[u32], buffer: &mut [u8], lent: usize) {
     if buffer.len() < lent {
         return;
@@ -22,35 +22,44 @@ fn write_into(outer: u64, kinds: &[u8], values: &[u32], buffer: &mut [u8], lent:
         ),
     );
     if number == 0 {
-        lists::read(testing::first(&buffer[..], lent), kinds.len(), values.len());
+        show::field(lists::read(
+            0,
+            testing::first(&buffer[..], lent),
+            kinds.len(),
+            values.len(),
+        ));
     }
 }
 
-pub fn write(outer: u64, kinds: &[u8], values: &[u32], lent: usize) {
+fn write(outer: u64, kinds: &[u8], values: &[u32], lent: usize) {
     let mut buffer = buffer_room();
     write_into(outer, kinds, values, &mut buffer, lent);
 }
 
-// How long the plan of these lists is, and what writing answers for a buffer of this length, one byte more, one less, none, and those around the limit.
-fn write_each(outer: u64, kinds: &[u8], values: &[u32], length: usize) {
+// This length, one byte less and one more; none; and the limit and one byte more.
+fn lent_length(length: usize, k: u32) -> usize {
+    match k {
+        3 => 0,
+        4 => 65536,
+        5 => 65537,
+        _ => lists::around(length, k),
+    }
+}
+
+// How long the plan of these lists is, and what writing answers for buffers around that length, or around another where they have no plan.
+fn write_each(outer: u64, kinds: &[u8], values: &[u32], otherwise: usize) {
     let needed = hall_length::hall_length(outer, kinds, values);
     show::answer(needed.number, needed.length as u64);
-    write(outer, kinds, values, length);
-    write(
-        outer,
-        kinds,
-        values,
-        std::num::wrapping_add_usize(length, 1),
-    );
-    write(
-        outer,
-        kinds,
-        values,
-        if 0 < length { length - 1 } else { 0 },
-    );
-    write(outer, kinds, values, 0);
-    write(outer, kinds, values, 65536);
-    write(outer, kinds, values, 65537);
+    let length = if needed.number == 0 {
+        needed.length
+    } else {
+        otherwise
+    };
+    let mut k: u32 = 0;
+    while k < 6 {
+        write(outer, kinds, values, lent_length(length, k));
+        k += 1;
+    }
 }
 
 fn fill(values: &mut [u32], bytes: &[u8]) {
@@ -62,16 +71,16 @@ fn fill(values: &mut [u32], bytes: &[u8]) {
 }
 
 // The same for values of four bytes each.
-pub fn written(outer: u64, kinds: &[u8], bytes: &[u8], length: usize) {
+pub fn written(outer: u64, kinds: &[u8], bytes: &[u8], otherwise: usize) {
     let mut values = lists::values_room();
     fill(&mut values, bytes);
     let count = bytes.len() / 4;
     if count <= 33000 {
-        write_each(outer, kinds, &values[..count], length);
+        write_each(outer, kinds, &values[..count], otherwise);
     }
 }
 
-// A plan read into lists of n entries and written from them.
+// The same for what a plan reads into lists of n entries.
 pub fn again(plan: &[u8], n: usize) {
     let mut kinds = lists::kinds_room();
     let mut values = lists::values_room();
@@ -80,18 +89,6 @@ pub fn again(plan: &[u8], n: usize) {
         return;
     }
     if n <= 33000 {
-        write_back(found.outer as u64, &kinds[..n], &values[..n]);
+        write_each(found.outer as u64, &kinds[..n], &values[..n], 0);
     }
-}
-
-fn write_back(outer: u64, kinds: &[u8], values: &[u32]) {
-    let needed = hall_length::hall_length(outer, kinds, values);
-    show::answer(needed.number, needed.length as u64);
-    write(outer, kinds, values, needed.length);
-    write(
-        outer,
-        kinds,
-        values,
-        std::num::wrapping_add_usize(needed.length, 1),
-    );
 }

@@ -6,10 +6,10 @@ use Rattle.hall_cases.proofs.run.Statement.{statement}
 use Rattle.hall_cases.proofs.run.Tie as tie
 
 abbrev Inv-loop : tie.InvT-loop
-Inv-loop input zeros ones cases at₀ sum₀ i₀ at sum i = i ≤ cases
+Inv-loop input zeros cases at₀ sum₀ i₀ at sum i = i ≤ cases
 
 abbrev μ-loop : tie.MeasureT-loop
-μ-loop input zeros ones cases at₀ sum₀ i₀ at sum i = cases - i
+μ-loop input zeros cases at₀ sum₀ i₀ at sum i = cases - i
 
 pub run-spec : {M : Type 1} → statement M
 run-spec =
@@ -19,10 +19,8 @@ run-spec =
     μ-loop
     (λ c κs. search needs)
     (λ c κs. search needs)
-    (λ c κs. search needs)
     (λ c. search needs)
     (λ c κs. search needs)
-    (λ c. search needs)
     (λ c. search needs)
     (λ c κs. search needs)
     (λ c κs. search needs)

@@ -6,11 +6,11 @@ use borrow.Author.Needs.{needs}
 use Rattle.hall_cases.proofs.written.again.Statement.{statement}
 use Rattle.hall_cases.proofs.written.again.Tie as tie
 
-slice-aggregate-write-back : tie.Need-slice-aggregate-write-back
-slice-aggregate-write-back c = simp length-take (omega arith)
+slice-aggregate-write-each : tie.Need-slice-aggregate-write-each
+slice-aggregate-write-each c = simp length-take (omega arith)
 
-slice-aggregate-write-back-2 : tie.Need-slice-aggregate-write-back-2
-slice-aggregate-write-back-2 c = simp length-take (omega arith)
+slice-aggregate-write-each-2 : tie.Need-slice-aggregate-write-each-2
+slice-aggregate-write-each-2 c = simp length-take (omega arith)
 
 pub again-spec : {M : Type 1} → statement M
 again-spec =
@@ -24,9 +24,9 @@ again-spec =
     (λ c. search needs)
     (λ c. search needs)
     (λ c. search needs)
-    slice-aggregate-write-back
+    slice-aggregate-write-each
     (λ c. search needs)
-    slice-aggregate-write-back-2
+    slice-aggregate-write-each-2
     (λ c κs. search needs)
     (λ c. search needs)
     (λ c. search needs))
