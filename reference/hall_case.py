@@ -45,22 +45,23 @@ class Cases:
         self.out(text)
 
     def line(self, data, entries=None):
-        """What a plan has, lookups, and the plan read into lists around so many entries (those that it has) and written again."""
+        """What a plan has, and the plan read into lists around so many entries (those that it has) and written again; of a short one lookups too."""
         answer = hall.read(data)
-        last, n = answer[3], answer[1] if entries is None else entries
-        self.put(b"l", data, number=last, length=n)
-        text = "%d:%d %d %d " % answer
-        for chute in (0, 1, last, last + 1, 4096, 4097, 2**32 - 1, 2**32, 2**32 + 1):
-            text += "%d:%d " % hall.destination(data, chute)
-        text += "".join("%d " % read_into(data, *lengths) for lengths in product(around(n), around(n)))
+        n = answer[1] if entries is None else entries
+        self.put(b"l", data, length=n)
+        text = "%d:%d %d %d " % answer + "".join("%d " % read_into(data, *lengths) for lengths in product(around(n), around(n)))
         number, _, outer, _, kinds, values = hall.read_into(data, n, n)
         self.out(text if number else text + write_each(outer, kinds, values, 0))
+        if len(data) < 100:
+            self.summed(data, answer[3] + 3, n)
+            self.summed(data, answer[3] + 3, n, first=2**32)
+            self.end()
 
-    def summed(self, data, chutes, length, flat=None):
-        """All answers for a plan, and lists of this length, taken into the checksum; lookups as in the flat plan where one is given."""
-        self.put(b"s", data, number=chutes, length=length)
+    def summed(self, data, chutes, length, first=0, flat=None):
+        """All answers for a plan, with so many chutes, and lists of this length, taken into the checksum; lookups as in the flat plan where one is given."""
+        self.put(b"s", data, number=first + chutes, length=length)
         total = read_into(data, length, length, summed(hall.read(data), self.total))
-        for chute in range(chutes):
+        for chute in range(first, first + chutes):
             total = summed(hall.destination(data, chute) if flat is None else plan.destination(flat, chute), total)
         self.total = total
 
@@ -73,7 +74,7 @@ class Cases:
     def flat(self, halls):
         """All lookups of a hall plan, which are those of the flat plan with its destinations."""
         rows = hall.destinations(halls)
-        self.summed(hall.bytes_of(halls), len(rows) + 3, len(list(hall.entries_in(halls))), write_plan(rows))
+        self.summed(hall.bytes_of(halls), len(rows) + 3, len(list(hall.entries_in(halls))), flat=write_plan(rows))
         self.end()
 
     def written(self, outer, kinds, values, length=0):
