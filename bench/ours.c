@@ -51,4 +51,19 @@ static void plan_lookup(size_t row_bytes)
     work.answer = hf_plan_destination(work.plan, work.plan_length, 4000).destination;
 }
 
-const struct worker ours = {"ours", {permutation, shake256, cshake256, kmac256, kmacxof256, session, sealing, opening, drawing, plan_read, plan_lookup}};
+static void hall_read(size_t destination_bytes)
+{
+    (void)destination_bytes;
+    hf_halls found = hf_hall_read(work.plan, work.plan_length);
+    work.answer = (uint32_t)found.entries + found.chutes;
+}
+
+static void hall_lookup(size_t destination_bytes)
+{
+    (void)destination_bytes;
+    work.answer = hf_hall_destination(work.plan, work.plan_length, 4000).destination;
+}
+
+const struct worker ours = {"ours",
+                            {permutation, shake256, cshake256, kmac256, kmacxof256, session, sealing, opening, drawing, plan_read, plan_lookup, hall_read,
+                             hall_lookup}};

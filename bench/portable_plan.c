@@ -1,18 +1,5 @@
 /* The plan's reading and lookup in portable C, as one would write them by hand; and the plans that are measured. */
-#include "work.h"
-
-/* The number at the cursor, which moves past it; -1 where a byte is missing or a third group promises a fourth. */
-static long number_at(size_t *cursor)
-{
-    long value = 0;
-    for (int shift = 0; shift < 21 && *cursor < work.plan_length; shift += 7) {
-        uint8_t byte = work.plan[(*cursor)++];
-        value += (long)(byte & 127) << shift;
-        if (byte < 128)
-            return value;
-    }
-    return -1;
-}
+#include "portable_number.h"
 
 /* The number of rows, or -1 for a plan that is refused; the destination of the chute, if the plan has it, into found. */
 static long read_plan(long chute, uint32_t *found)
@@ -51,6 +38,5 @@ void make_plan(size_t row_bytes)
     work.plan[0] = 0x80, work.plan[1] = 0x20; /* 4,096 rows */
     work.plan_length = 2;
     for (size_t row = 0; row < 4096; row++)
-        for (size_t group = 1; group <= row_bytes; group++)
-            work.plan[work.plan_length++] = (uint8_t)((row + group) % 127 + 1 + (group < row_bytes ? 128 : 0));
+        put_number(row, row_bytes);
 }

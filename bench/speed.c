@@ -30,6 +30,8 @@ static const struct {
     {"draw", DRAWING, {64, 4096, MOST}},
     {"plan read, 4,096 rows of", PLAN_READ, {1, 2, 3}},
     {"plan lookup, 4,096 rows of", PLAN_LOOKUP, {1, 2, 3}},
+    {"hall read, 4,096 chutes of", HALL_READ, {1, 2, 3}},
+    {"hall lookup, 4,096 chutes of", HALL_LOOKUP, {1, 2, 3}},
 };
 enum { ROWS = sizeof rows / sizeof *rows };
 
@@ -127,6 +129,8 @@ static void prepare(enum kind kind, size_t size)
     }
     if (kind == PLAN_READ || kind == PLAN_LOOKUP)
         make_plan(size);
+    if (kind == HALL_READ || kind == HALL_LOOKUP)
+        make_halls(size);
 }
 
 int main(int argc, char **argv)

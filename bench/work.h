@@ -4,7 +4,7 @@
 #include <stddef.h>
 #include <stdint.h>
 
-enum { MOST = 1 << 20, BLOCK = 136, KEY = 32, IV = 16, NAME = 8, CUSTOM = 8, TAG = 32, OUT = 64, SEED_KEY = 64, PLAN_MOST = 12290 };
+enum { MOST = 1 << 20, BLOCK = 136, KEY = 32, IV = 16, NAME = 8, CUSTOM = 8, TAG = 32, OUT = 64, SEED_KEY = 64, PLAN_MOST = 16937 };
 
 /* All that any of them reads or writes; buffers are touched before they are measured. */
 struct work {
@@ -18,8 +18,8 @@ struct work {
 extern struct work work;
 
 /* What can be done, each with a size: bytes of the message, text or output; for the permutation the runs; for a session the bytes of a piece of
-   1 MiB; for a plan the bytes of a row. */
-enum kind { PERMUTATION, SHAKE256, CSHAKE256, KMAC256, KMACXOF256, SESSION, SEALING, OPENING, DRAWING, PLAN_READ, PLAN_LOOKUP, KINDS };
+   1 MiB; for a plan the bytes of a row, for a hall plan those of a destination. */
+enum kind { PERMUTATION, SHAKE256, CSHAKE256, KMAC256, KMACXOF256, SESSION, SEALING, OPENING, DRAWING, PLAN_READ, PLAN_LOOKUP, HALL_READ, HALL_LOOKUP, KINDS };
 
 /* One that does it; NULL where it has no such function. */
 typedef void task(size_t size);
@@ -29,8 +29,10 @@ struct worker {
 };
 extern const struct worker ours, openssl, portable;
 
-task portable_plan_read, portable_plan_lookup;
+task portable_plan_read, portable_plan_lookup, portable_hall_read, portable_hall_lookup;
 
 /* A plan of 4,096 rows of this many bytes each into work.plan. */
 void make_plan(size_t row_bytes);
+/* A hall plan of 4,096 chutes in 276 halls on four levels, each destination of this many bytes, into work.plan. */
+void make_halls(size_t destination_bytes);
 #endif

@@ -5,11 +5,13 @@ import struct
 import zlib
 from collections import namedtuple
 from functools import lru_cache
+from itertools import groupby
 from pathlib import Path
 from typing import Any, Callable, Dict, Iterator, NamedTuple, Optional, Sequence, Tuple
 
 FORM = re.compile(r"    ([a-z_0-9]+)((?: [A-Z-]+)*) =((?: [A-Z-]+)*)")  # an entry's line in the README
 SHOWN_WHOLE = 1_024  # bytes: a longer output stands as its CRC-32
+SHOWN_EACH = 3  # equal numbers of a list, one after another: of more, one stands there and how many there are
 PERIOD = 65_536  # bytes after which a pattern begins again
 
 
@@ -75,14 +77,24 @@ def lanes_field(lanes: Sequence[int]) -> str:
     return struct.pack("<25Q", *lanes).hex()
 
 
-def destinations_of(field: str) -> Tuple[int, ...]:
-    """Numbers separated by commas, or `-`."""
-    return () if field == "-" else tuple(map(int, field.split(",")))
+def list_of(field: str) -> Tuple[int, ...]:
+    """Numbers separated by commas, of which `TIMES*NUMBER` is that many equal ones, or `-`.
+
+    >>> list_of("-"), list_of("7,4*0,1")
+    ((), (7, 0, 0, 0, 0, 1))
+    """
+    runs = [part.rpartition("*") for part in field.split(",") if part != "-"]
+    return tuple(number for times, _, value in runs for number in [int(value)] * int(times or 1))
 
 
-def destinations_field(destinations: Sequence[int]) -> str:
-    """Destinations as they stand in the file."""
-    return ",".join(map(str, destinations)) or "-"
+def list_field(numbers: Optional[Sequence[int]]) -> str:
+    """Numbers as they stand in the file, `-` for none.
+
+    >>> list_field(None), list_field([7, 0, 0, 0, 0, 1])
+    ('-', '7,4*0,1')
+    """
+    runs = [(value, len(list(equal))) for value, equal in groupby(numbers or ())]
+    return ",".join(f"{times}*{value}" if times > SHOWN_EACH else ",".join([str(value)] * times) for value, times in runs) or "-"
 
 
 class Kind(NamedTuple):
@@ -95,8 +107,10 @@ class Kind(NamedTuple):
 BYTES = Kind(bytes_of, bytes_field)
 NUMBER = Kind(int, str)
 OUTPUT = Kind(str, shown)  # read as it stands, to be compared by `agrees`
-LISTS = {"LANES": Kind(lanes_of, lanes_field), "DESTINATIONS": Kind(destinations_of, destinations_field)}
-NUMBERS = {"LENGTH", "TAG-LENGTH", "NUMBER", "RUNS", "ROWS", "CHUTE", "DESTINATION", "SOURCE", "START", "PLACE"}
+LIST = Kind(list_of, list_field)
+LISTS = {"LANES": Kind(lanes_of, lanes_field), "DESTINATIONS": LIST, "KINDS": LIST, "VALUES": LIST}
+LENGTHS = {"LENGTH", "TAG-LENGTH", "KINDS-LENGTH", "VALUES-LENGTH"}
+NUMBERS = {*LENGTHS, "NUMBER", "RUNS", "ROWS", "CHUTE", "DESTINATION", "SOURCE", "START", "PLACE", "ENTRIES", "OUTER", "CHUTES"}
 
 
 def kind(name: str, others: Kind) -> Kind:

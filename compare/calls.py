@@ -12,6 +12,7 @@ import sys
 from collections import Counter
 
 import fast_sponge  # before every other module of the reference
+import hall_calls
 import hash_calls
 import limit_calls
 import plan_calls
@@ -31,13 +32,18 @@ KINDS = {
     plan_calls.row: 12,
     plan_calls.write: 6,
     plan_calls.walk: 3,
+    hall_calls.read: 6,
+    hall_calls.look: 8,
+    hall_calls.read_into: 8,
+    hall_calls.write: 7,
 }
-LIMITS = (limit_calls.one_shot, limit_calls.session, limit_calls.seal, limit_calls.draw)
+LIMITS = (limit_calls.one_shot, limit_calls.session, limit_calls.seal, limit_calls.draw, hall_calls.too_many_entries)
 
 
 def lines(rng, count, small):
     """The lines, those at the limits first."""
     yield from plan_calls.limits(rng)
+    yield from hall_calls.limits(rng)
     if not small:
         for calls in LIMITS:
             yield from calls(rng)

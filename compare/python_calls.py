@@ -2,36 +2,26 @@
 
     python3 compare/python_calls.py FILE
 
-Prints for each entry how many lines agree and how many are left out, since the module cannot express them: a lent output of another length than the
-text or the plan, and calls on a session or a walk that could not start, where the module hands out none. Exits with 1 on any difference.
+Prints for each entry how many lines agree and how many are left out, since the module cannot express them: a lent output or list of another length than
+the text, the plan or its entries, and calls on a session or a walk that could not start, where the module hands out none. Exits with 1 on any difference.
 """
 
 import sys
 from collections import Counter
-from pathlib import Path
-from typing import Any, Iterator, Optional, Tuple
+from typing import Any, Optional, Tuple
 
-from callfile import FORMS, NUMBER, OUTPUT, Call, agrees, calls
+from callfile import FORMS, LIST, NUMBER, OUTPUT, Call, agrees, calls
+from python_plans import UNSEEN, LeftOut, PlanReader, same_length, started
 
-sys.path.insert(0, str(Path(__file__).resolve().parent.parent / "python"))
-
-import hailfeather  # noqa: E402  (the path above leads to it)
-from hailfeather import Generator, Refusal, Session, plan  # noqa: E402
-
-SOURCES = {"site": 1, "house": 2}
-UNSEEN = object()  # a field of the answer that the module keeps to itself
+import hailfeather  # python_plans has put it on the path
+from hailfeather import Generator, Refusal, Session
 
 
-class LeftOut(Exception):
-    """The module cannot express the line."""
-
-
-class Reader:
-    """A method for each entry: from the arguments to the answer's fields; the session, generator and walk of the last lines are kept."""
+class Reader(PlanReader):
+    """A method for each entry: from the arguments to the answer's fields; the session and the generator of the last lines are kept."""
 
     session: Optional[Session] = None
     generator = Generator()
-    walk: Optional[Iterator[int]] = None
 
     def keccak_p(self, given: Any) -> Tuple:
         return (hailfeather.keccak_p(given.lanes),)
@@ -90,56 +80,15 @@ class Reader:
         output = self.generator.draw(given.length, given.additional)
         return 0, output.runs, output, self.key()
 
-    def plan_read(self, given: Any) -> Tuple:
-        return 0, plan.rows(given.plan)
-
-    def plan_destination(self, given: Any) -> Tuple:
-        return 0, plan.destination(given.plan, given.chute)
-
-    def plan_row(self, given: Any) -> Tuple:
-        row = plan.row(given.site, given.house, given.chute)
-        if row.bytes != getattr(given, row.source)[row.start : row.start + len(row.bytes)]:
-            return ()
-        return 0, SOURCES[row.source], row.start, len(row.bytes)
-
-    def plan_length(self, given: Any) -> Tuple:
-        return 0, len(plan.write(given.destinations))
-
-    def plan_write(self, given: Any) -> Tuple:
-        written = plan.write(given.destinations)
-        same_length(written, given.length)
-        return 0, written
-
-    def plan_start(self, given: Any) -> Tuple:
-        self.walk = None
-        self.walk = plan.walk(given.plan)
-        return 0, UNSEEN
-
-    def plan_step(self, given: Any) -> Tuple:
-        destination = next(started(self.walk), None)
-        return (10, 0, UNSEEN) if destination is None else (0, destination, UNSEEN)
-
     def answer(self, call: Call) -> Tuple:
-        """The module's answer; on a refusal 0 and no bytes for all but the number and the generator's key."""
+        """The module's answer; on a refusal 0, no bytes and no list for all but the number and the generator's key."""
         try:
             return getattr(self, call.entry)(call.given)
         except Refusal as refusal:
             _, form = FORMS[call.entry]
-            others = [self.key() if name == "key" else 0 if kind is NUMBER else b"" for name, kind in zip(form.made._fields, form.kinds)]
+            nothing = {NUMBER: 0, LIST: ()}
+            others = [self.key() if name == "key" else nothing.get(kind, b"") for name, kind in zip(form.made._fields, form.kinds)]
             return (refusal.number, *others[1:])
-
-
-def started(state: Any) -> Any:
-    """A session or a walk, if there is one."""
-    if state is None:
-        raise LeftOut
-    return state
-
-
-def same_length(content: bytes, length: int) -> None:
-    """Leaves the line out if it lends another length than the module does."""
-    if len(content) != length:
-        raise LeftOut
 
 
 def alike(call: Call, found: Tuple) -> bool:

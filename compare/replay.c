@@ -24,6 +24,9 @@ static const struct {
     {"plan_destination", 5, replay_plan},  {"plan_row", 8, replay_plan},
     {"plan_length", 4, replay_plan},       {"plan_write", 5, replay_plan},
     {"plan_start", 4, replay_plan},        {"plan_step", 4, replay_plan},
+    {"hall_read", 6, replay_hall},         {"hall_destination", 5, replay_hall},
+    {"hall_read_into", 10, replay_hall},   {"hall_length", 6, replay_hall},
+    {"hall_write", 7, replay_hall},
 };
 enum { ENTRIES = sizeof entries / sizeof entries[0] };
 static long counts[ENTRIES];

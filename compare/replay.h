@@ -27,11 +27,12 @@ typedef struct {
 
 buffer lend(size_t length);                               /* full of canaries */
 buffer lend_bytes(const char *field);                     /* with the bytes that a field names: to be read */
-buffer lend_rows(const char *field);                      /* with numbers of 32 bits */
+buffer lend_list(const char *field, size_t width);        /* with a list's numbers, each of so many bytes */
 bool edges_stand(const buffer *lent);                     /* the canaries on both sides are as before */
 bool holds(const buffer *lent, const char *field);        /* the edges stand and the lent bytes are those of an output's field */
 bool untouched(const buffer *lent);                       /* the edges stand and every lent byte is a canary */
 bool still(const buffer *lent, const char *field);        /* the edges stand and the bytes read are still those of the field */
+bool holds_list(const buffer *lent, const char *field, size_t width); /* the edges stand and the lent numbers are those of a list's field */
 void give_back(buffer *lent);
 
 uint64_t number_of(const char *field);
@@ -42,5 +43,6 @@ bool replay_session(const call *line);
 bool replay_seal(const call *line);
 bool replay_generator(const call *line);
 bool replay_plan(const call *line);
+bool replay_hall(const call *line);
 
 #endif

@@ -68,16 +68,25 @@ buffer lend_bytes(const char *field)
     return lent;
 }
 
-buffer lend_rows(const char *field)
+/* How many numbers a list's field has; each goes in so many bytes, low byte first, to where they are to stand, unless that is NULL. */
+static size_t list_of(const char *field, size_t width, uint8_t *to)
 {
-    size_t count = field[0] == '-' ? 0 : 1;
-    for (const char *at = field; *at != 0; at++)
-        count += *at == ',';
-    buffer lent = allocated(4 * count);
-    for (size_t i = 0; i < count; i++) {
-        ((uint32_t *)(void *)lent.bytes)[i] = (uint32_t)number_of(field);
-        field = strchr(field, ',') + 1;
+    size_t count = 0;
+    for (char *after; *field >= '0' && *field <= '9'; field = *after == ',' ? after + 1 : after) {
+        uint64_t times = 1, value = strtoull(field, &after, 10);
+        if (*after == '*')
+            times = value, value = strtoull(after + 1, &after, 10);
+        for (; times > 0; times--, count++)
+            for (size_t i = 0; to != NULL && i < width; i++)
+                to[width * count + i] = (uint8_t)(value >> 8 * i);
     }
+    return count;
+}
+
+buffer lend_list(const char *field, size_t width)
+{
+    buffer lent = allocated(width * list_of(field, width, NULL));
+    list_of(field, width, lent.bytes);
     return lent;
 }
 
@@ -123,6 +132,14 @@ bool holds(const buffer *lent, const char *field)
         return still(lent, field);
     uint32_t expected = (uint32_t)strtoul(strchr(field, ':') + 1, NULL, 16);
     return edges_stand(lent) && lent->length == length_of(field) && crc32(lent->bytes, lent->length) == expected;
+}
+
+bool holds_list(const buffer *lent, const char *field, size_t width)
+{
+    buffer expected = lend_list(field, width);
+    bool same = edges_stand(lent) && lent->length == expected.length && memcmp(lent->bytes, expected.bytes, lent->length) == 0;
+    give_back(&expected);
+    return same;
 }
 
 void give_back(buffer *lent)

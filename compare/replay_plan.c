@@ -62,9 +62,9 @@ static bool write(char *const *f, buffer *rows)
 
 static bool of_rows(char *const *f)
 {
-    buffer rows = lend_rows(f[1]), before = lend_rows(f[1]);
-    bool same = write(f, &rows) && edges_stand(&rows) && memcmp(rows.bytes, before.bytes, rows.length) == 0;
-    give_back(&rows), give_back(&before);
+    buffer rows = lend_list(f[1], 4);
+    bool same = write(f, &rows) && holds_list(&rows, f[1], 4);
+    give_back(&rows);
     return same;
 }
 

@@ -1,6 +1,6 @@
 """docs/RULES.md, "Facts": every row and every count, asked of the reference.
 
-The walker, writing and the report, which have no cases in vectors/, are asked here too.
+The walker, writing, the report and hall plans, which have no cases in vectors/, are asked here too.
 
     python3 reference/both_sides.py
 
@@ -10,6 +10,7 @@ Prints `N rows agree`, or each difference and exit status 1.
 import sys
 
 import generator
+import hall
 import plan
 from sealing import seal
 from sp800_185 import cshake256, encode_string, kmacxof256, left_encode, right_encode
@@ -71,6 +72,46 @@ def walks_and_writing():
     ]
 
 
+def hall_limits():
+    """Hall plans on both sides of each limit."""
+    eight, nine = ("01" * (2 * level - 2) + "00" for level in (8, 9))
+    chutes, halls = b"\x00\x07", b"\x01\x00"
+    longest = b"\xfe\xff\x01" + halls * 32_765 + b"\x81\x00\x00"  # the last hall's kind in two groups
+    return [
+        ("level 8", hall.read(bytes.fromhex(eight)), (0, 7, 1, 0)),
+        ("level 9", hall.read(bytes.fromhex(nine)), (9, 0, 0, 0)),
+        ("4,096 chutes", hall.read(b"\x80\x20" + chutes * 4_096), (0, 4_096, 4_096, 4_096)),
+        ("4,097 chutes", hall.read(b"\x81\x20" + chutes * 4_097), (9, 0, 0, 0)),
+        ("65,536 bytes", (len(longest), hall.read(longest)), (65_536, (0, 32_766, 32_766, 0))),
+        ("65,537 bytes", hall.read(longest + b"\x00"), (5, 0, 0, 0)),
+        ("number of entries 2,097,151", hall.read(b"\xff\xff\x7f" + halls), (9, 0, 0, 0)),
+        ("destination 2,097,151", hall.write(1, [0], [2_097_151], 5), (0, bytes.fromhex("0100FFFF7F"))),
+        ("destination 2,097,152", hall.write(1, [0], [2_097_152], 5), (9, None)),
+        ("outermost 2^32 + 1", hall.write(2**32 + 1, [0], [7], 3), (9, None)),
+        ("length of 32,766 empty halls", hall.length(32_766, [1] * 32_766, [0] * 32_766), (0, 65_535)),
+        ("length of 32,767 empty halls", hall.length(32_767, [1] * 32_767, [0] * 32_767), (5, 0)),
+    ]
+
+
+def halls():
+    """A hall plan read, looked up and written; lookups are those of the flat plan with its destinations."""
+    lent = bytes.fromhex("02010200" "0700AC02" "0000")
+    lists = (2, [1, 0, 0, 0], [2, 7, 300, 0])
+    return [
+        ("halls", hall.halls(lent), [[7, 300], 0]),
+        ("halls read", hall.read(lent), (0, 4, 2, 3)),
+        ("halls read into lists", hall.read_into(lent, 4, 4), (0, 4, 2, 3, *lists[1:])),
+        ("halls read into short lists", hall.read_into(lent, 3, 3), (9, 0, 0, 0, None, None)),
+        ("halls looked up", [hall.destination(lent, chute) for chute in range(6)], [plan.destination(PLAN, chute) for chute in range(6)]),
+        ("halls measured", hall.length(*lists), (0, 10)),
+        ("halls written", hall.write(*lists, 10), (0, lent)),
+        ("padded kinds", hall.halls(bytes.fromhex("02" "818000" "00" "8000" "07")), [[], 7]),
+        ("kind 2", hall.read(bytes.fromhex("010200")), (9, 0, 0, 0)),
+        ("no entries", hall.halls(b"\x00"), []),
+        ("no bytes", hall.read(b""), (9, 0, 0, 0)),
+    ]
+
+
 def counts():
     """The counts of the one-shot calls."""
     none = b""
@@ -107,7 +148,7 @@ def draws():
 
 
 def main():
-    rows = encodings() + plans() + walks_and_writing() + counts() + draws()
+    rows = encodings() + plans() + walks_and_writing() + halls() + hall_limits() + counts() + draws()
     wrong = [(title, found, expected) for title, found, expected in rows if found != expected]
     for title, found, expected in wrong:
         print(f"{title}: expected {expected}, the reference gives {found}")

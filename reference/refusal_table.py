@@ -12,6 +12,7 @@ from functools import partial
 from itertools import product
 
 import generator
+import hall
 import plan
 import sealing
 import sessions
@@ -38,6 +39,14 @@ SEEDED = generator.seed(FRESH, b"", b"")[2]
 GOOD_PLAN, LONG_PLAN = bytes.fromhex("0307AC0200"), bytes(65_537)
 LENT_PLAN = [(GOOD_PLAN, 0), (b"", 9), (b"\x01", 9), (b"\x00\x00", 9), (LONG_PLAN, 5)]
 CHUTE = [(1, 0), (3, 0), (0, 10), (4, 10), (2**32 - 1, 10)]
+GOOD_HALLS = bytes.fromhex("02010200" "0700AC02" "0000")  # a hall of two chutes, and a chute: four entries, 10 bytes
+BAD_HALLS = [b"", b"\x01", b"\x00\x00", b"\x01\x02\x00", b"\x01" * 16 + b"\x00", b"\x81\x20" + bytes(2 * 4_097)]
+LENT_HALLS = [(GOOD_HALLS, 0), *((lent, 9) for lent in BAD_HALLS), (LONG_PLAN, 5)]
+FOUR = [(4, 0), (0, 9), (3, 9), (5, 9)]
+OUTER = [(2, 0), (1, 9), (3, 9), (2_097_152, 9), (2**32 + 2, 9)]
+KINDS = [([1, 0, 0, 0], 0), ([1, 0, 2, 0], 9), ([1, 0, 0], 9), ([1, 0, 0, 0, 0], 9)]
+VALUES = [([2, 7, 300, 0], 0), ([2, 7, 2_097_152, 0], 9), ([2**32 - 1, 7, 300, 0], 9), ([2, 7], 9)]
+EMPTY_HALLS = [(32_766, 0), (32_767, 5), (40_000, 5)]  # plans of 65,535 bytes, 65,537 and more
 NOT_STARTED = sessions.start_cshake256(b"KMAC", b"")[1]
 STARTED = sessions.start_cshake256(b"", b"")[1]
 GIVING = sessions.give(STARTED, 0)[2]
@@ -58,6 +67,11 @@ def opened(key, label, tag, out_length):
 def sealed(key, iv, label, out_length, tag_length):
     """Sealing a text of 4 bytes."""
     return sealing.seal(key, iv, b"text", label, out_length, tag_length)
+
+
+def empty_halls_length(count, more):
+    """The length of a plan of so many empty halls, of which it promises some more."""
+    return hall.length(count + more, [1] * count, [0] * count)
 
 
 # Entry: (call, the answer after the number of a refusal, the values of its arguments).
@@ -89,6 +103,15 @@ PLANS = {
     "write": (written, (None,), [[(2_097_151, 0), (2_097_152, 9)], [(5, 0), (4, 9), (6, 9)]]),
     "write, too many": (plan.write, (None,), [[([0] * 4_097, 9)], [(4_099, 9)]]),
 }
+HALLS = {
+    "hall read": (hall.read, (0, 0, 0), [LENT_HALLS]),
+    "hall destination": (hall.destination, (0,), [LENT_HALLS, CHUTE]),
+    "hall read into": (hall.read_into, (0, 0, 0, None, None), [LENT_HALLS, FOUR, FOUR]),
+    "hall length": (hall.length, (0,), [OUTER, KINDS, VALUES]),
+    "hall length, long": (empty_halls_length, (0,), [EMPTY_HALLS, [(0, 0)]]),
+    "hall length, long and broken": (empty_halls_length, (0,), [[(32_766, 9), (32_767, 9)], [(1, 9), (-1, 9)]]),
+    "hall write": (hall.write, (None,), [OUTER, KINDS, VALUES, [(10, 0), (9, 9), (11, 9), (65_536, 9), (65_537, 5)]]),
+}
 
 
 def complaint(expected, answer, blank):
@@ -111,7 +134,7 @@ def wrong_calls(title, call, blank, arguments):
 
 
 def main():
-    results = [wrong_calls(title, *entry) for title, entry in (ONE_SHOT | STATES | PLANS).items()]
+    results = [wrong_calls(title, *entry) for title, entry in (ONE_SHOT | STATES | PLANS | HALLS).items()]
     wrong = [text for _, texts in results for text in texts]
     for text in wrong:
         print(text)

@@ -43,9 +43,13 @@ pub fn lanes(field: &str) -> [u64; 25] {
     std::array::from_fn(|lane| u64::from_le_bytes(bytes[8 * lane..8 * lane + 8].try_into().expect("8 bytes")))
 }
 
-/// Destinations, separated by commas.
-pub fn destinations(field: &str) -> Vec<u32> {
-    field.split(',').filter(|field| *field != "-").map(number).collect()
+/// Numbers separated by commas, of which `TIMES*NUMBER` is that many equal ones.
+pub fn list<N: std::str::FromStr + Clone>(field: &str) -> Vec<N> {
+    let runs = field
+        .split(',')
+        .filter(|run| *run != "-")
+        .map(|run| run.split_once('*').unwrap_or(("1", run)));
+    runs.flat_map(|(times, value)| vec![number(value); number(times)]).collect()
 }
 
 /// Whether an output is the one that the file shows.

@@ -5,7 +5,7 @@ use std::fmt::Display;
 use hailfeather::plan::{self, Source};
 use hailfeather::{open, seal, Refusal, Runs};
 
-use super::bytes::{bytes, destinations, lanes, number};
+use super::bytes::{bytes, lanes, list, number};
 use super::lent::Lent;
 
 /// The refusal, if the answer is one; or what is wrong with the answer.
@@ -90,7 +90,7 @@ pub fn row([site, house, chute]: [&str; 3], answer: &[&str]) -> Compared {
 
 /// Rows that `write` accepts also have to be what `to_vec` makes of them.
 pub fn written([rows, length]: [&str; 2], [refusal, output]: [&str; 2]) -> Compared {
-    let (rows, mut out) = (destinations(rows), Lent::new(number(length)));
+    let (rows, mut out) = (list(rows), Lent::new(number(length)));
     let found = plan::write(&rows, out.middle());
     same(&[refusal], number_of(&found))?;
     if found.is_ok() {

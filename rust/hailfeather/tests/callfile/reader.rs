@@ -2,10 +2,11 @@
 
 use std::collections::{BTreeMap, BTreeSet};
 
-use hailfeather::plan;
 use hailfeather::{cshake256, kmac256, kmacxof256, Session};
+use hailfeather::{hall, plan};
 
-use super::bytes::{bytes, destinations, number};
+use super::bytes::{bytes, list, number};
+use super::halls;
 use super::one_call::{hash, opened, permuted, row, sealed, value, written, Compared};
 use super::states::{Generators, Sessions, Walks};
 
@@ -75,10 +76,15 @@ impl Reader {
             "plan_read" => exactly(given).and_then(|[plan]| value(plan::rows(&bytes(plan)), "0", answer)),
             "plan_destination" => exactly(given).and_then(|[plan, chute]| value(plan::destination(&bytes(plan), number(chute)), "0", answer)),
             "plan_row" => row(exactly(given)?, answer),
-            "plan_length" => exactly(given).and_then(|[rows]| value(plan::length(&destinations(rows)), "0", answer)),
+            "plan_length" => exactly(given).and_then(|[rows]| value(plan::length(&list(rows)), "0", answer)),
             "plan_write" => written(exactly(given)?, exactly(answer)?),
             "plan_start" => self.walks.begin(exactly(given)?, exactly(answer)?),
             "plan_step" => self.walks.step(exactly(answer)?),
+            "hall_read" => exactly(given).and_then(|[plan]| halls::summary(hall::read(&bytes(plan)), answer)),
+            "hall_destination" => exactly(given).and_then(|[plan, chute]| value(hall::destination(&bytes(plan), number(chute)), "0", answer)),
+            "hall_read_into" => halls::read_into(exactly(given)?, exactly(answer)?),
+            "hall_length" => halls::length(exactly(given)?, answer),
+            "hall_write" => halls::written(exactly(given)?, exactly(answer)?),
             _ => Err(format!("there is no entry {entry}")),
         }
     }
