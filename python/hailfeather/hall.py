@@ -16,6 +16,7 @@ from .refusal import accept
 CHUTE = 0  # the kind of an entry with a destination
 HALL = 1  # the kind of an entry with a hall
 LEVELS_LIMIT = 8  # levels: a plan with more is refused
+CHUTES_LIMIT = 4_096  # chutes: a plan with more is refused
 LARGEST_KIND = 2**8 - 1
 
 
@@ -109,17 +110,20 @@ def write_nested(hall: Sequence[Any]) -> bytes:
         raise TypeError(f"a hall has to be a list, not {type(hall).__name__}")
     kinds: List[int] = []
     values: List[int] = []
-    add_entries(hall, LEVELS_LIMIT - 1, kinds, values)
+    chutes = 0
+    for kind, value, levels in entries_of(hall, LEVELS_LIMIT - 1):
+        kinds.append(kind)
+        values.append(value)
+        chutes += kind == CHUTE
+        if chutes > CHUTES_LIMIT or (kind == HALL and levels == 0):
+            break  # the library refuses it whatever follows, so a hall that holds itself is refused too
     return write(len(hall), kinds, values)
 
 
-def add_entries(hall: Sequence[Any], levels: int, kinds: List[int], values: List[int]) -> bool:
-    """Adds a hall's entries in reading order, with so many levels below it. False at a hall that no level is left for, which stands last then: the library
-    refuses it, so that a hall that holds itself is refused too."""
+def entries_of(hall: Sequence[Any], levels: int) -> Iterator[Tuple[int, Any, int]]:
+    """The entries of a hall in reading order, and those of its halls: kind, value, and how many levels are left below the hall that it stands in."""
     for entry in hall:
         is_hall = isinstance(entry, (list, tuple))
-        kinds.append(HALL if is_hall else CHUTE)
-        values.append(len(entry) if is_hall else entry)
-        if is_hall and (levels == 0 or not add_entries(entry, levels - 1, kinds, values)):
-            return False
-    return True
+        yield (HALL, len(entry), levels) if is_hall else (CHUTE, entry, levels)
+        if is_hall:
+            yield from entries_of(entry, levels - 1)

@@ -34,8 +34,9 @@ done <<'TEXTS'
 1:it has to be 'hall':hall 2\n
 1:it has to be 'hall':1 2 3\n
 1:it has to be 'hall':7 # the first\n
-1:it has to be 'hall':chutes\n
-1:it has to be 'hall':chutes x\n
+1:it has to be 'chutes N':chutes x\n
+1:it has to be 'chutes N':chutes\n
+1:it has to be 'chutes N':chutes 1 2\n
 1:it has to be 'hall':rows 3\n7\n8\n9\n
 2:it has to be 'hall':hall\n  -1\n
 3:the next chute is 2, not 1:hall\n  1 7\n1 300\n

@@ -1,5 +1,5 @@
--- What passing over a hall or an entry of two lists comes to, from a place on, and what the checkers ask of their caller: lists of equal length, and a pass that stands
--- in them. No public contract cites it.
+-- What passing over a hall or an entry of two lists comes to, and what the checkers ask of their caller: lists of equal length, and a pass that stands in
+-- them. No public contract cites it.
 use Prim.Native.Nat.{ℕ}
 use mathlib.Core.Path.{_≡_}
 use mathlib.Core.List.{List}

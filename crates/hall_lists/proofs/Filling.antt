@@ -30,7 +30,8 @@ pub record Filling (s : List ℕ) (start : ℕ) (kinds₀ values₀ : List ℕ) 
   pub kinds-length : length kinds ≡ length kinds₀
   pub values-length : length values ≡ length values₀
   pub kinds-left : sets kinds i (kindsOf (inSequence (count - i) at (drop at s))) ≡ sets kinds₀ 0 (kindsOf (inSequence (length kinds₀) start (drop start s)))
-  pub values-left : sets values i (valuesOf (inSequence (count - i) at (drop at s))) ≡ sets values₀ 0 (valuesOf (inSequence (length kinds₀) start (drop start s)))
+  pub values-left : sets values i (valuesOf (inSequence (count - i) at (drop at s))) ≡
+      sets values₀ 0 (valuesOf (inSequence (length kinds₀) start (drop start s)))
 
 module _ (s : List ℕ) (count i at : ℕ) where
   sequence-more : (k v next : ℕ) → i < count → byteHead 1 0 at (drop at s) ≡ first k v next (drop next s)

@@ -1,5 +1,5 @@
--- Reading a hall plan into two lent lists (docs/RULES.md, 'Hall plan'): both have exactly as many elements as the plan has entries, else 9; and on a refusal they
--- hold what they held.
+-- Reading a hall plan into two lent lists (docs/RULES.md, 'Hall plan'): both have exactly as many elements as the plan has entries, else 9; and on a refusal
+-- they hold what they held.
 use Prim.Native.Nat.{ℕ}
 use mathlib.Core.Path.{_≡_}
 use mathlib.Core.List.{List}

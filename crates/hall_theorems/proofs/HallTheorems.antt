@@ -73,7 +73,8 @@ tree-plan : (s : List ℕ) → TreePlan (hallsOf s)
 unfolding hallsOf
 tree-plan s = go (ltb maxPlan (length s))
   where
-    of-ending : (outer at : ℕ) (t : List ℕ) (r : Read ℕ) → outer ≤ maxNumber → AllGood byteHead Good levelsBelow outer at 0 t r → TreePlan (nothingAfter outer r)
+    of-ending : (outer at : ℕ) (t : List ℕ) (r : Read ℕ) → outer ≤ maxNumber → AllGood byteHead Good levelsBelow outer at 0 t r
+        → TreePlan (nothingAfter outer r)
     of-ending outer at t (reached l next []) o g = (o, g (omega arith))
     of-ending outer at t (reached l next (b ∷ rest)) o g = tt
     of-ending outer at t (breach place) o g = tt

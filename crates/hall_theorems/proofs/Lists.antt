@@ -41,8 +41,8 @@ passes zero at before (inner h more) x r = absurd (omega (arith, r .deep, some-l
 passes (suc below) at before (inner h more) x r =
     let level : 0 < suc below = omega arith in
     let other : hallKind ≡ chuteKind → ⊥ = λ z. omega arith in
-    let all : length (destinationsOf h ++ destinationsOf more) ≡ length (destinationsOf h) + length (destinationsOf more) = length-append (destinationsOf h) (destinationsOf more) in
-    let few : before + length (destinationsOf h) + length (destinationsOf more) ≤ maxChutes = omega (arith, r .few) in
+    let few : before + length (destinationsOf h) + length (destinationsOf more) ≤ maxChutes =
+    omega (arith, r .few, length-append (destinationsOf h) (destinationsOf more)) in
     let deep : levelsOf h ≤ suc below = omega (arith, r .deep, le-max-left (suc (levelsOf h)) (levelsOf more)) in
     let past : ℕ = at + 1 + length (listed h) in
     let i = passes below (at + 1) before h (listed more ++ x) (record { deep = deep; few = omega arith; fits = r .fits .1 .0 }) in

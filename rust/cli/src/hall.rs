@@ -24,7 +24,7 @@ pub const REPORT: Command = Command {
 #   2 300
 # 3 0
 
-printf 'hall\\n  hall\\n  9\\n' | hailfeather hall write -o house.plan && hailfeather hall report house.plan
+printf 'hall\\n  hall\\n  9\\n' | hailfeather hall write -o halls.plan && hailfeather hall report halls.plan
 # chutes 1
 # hall
 #   hall
@@ -39,11 +39,11 @@ pub const LOOKUP: Command = Command {
     operands: &["CHUTE", "PLAN"],
     options: &[],
     notes: "Chutes count from 1 in reading order, through all halls.",
-    examples: "printf '\\002\\001\\002\\000\\007\\000\\254\\002\\000\\000' > house.plan
-hailfeather hall lookup 2 house.plan
+    examples: "printf '\\002\\001\\002\\000\\007\\000\\254\\002\\000\\000' > halls.plan
+hailfeather hall lookup 2 halls.plan
 # 300
 
-hailfeather hall lookup 4 house.plan 2>&1 || echo status $?
+hailfeather hall lookup 4 halls.plan 2>&1 || echo status $?
 # refused 10: the plan has no such chute
 # status 10",
     refusals: &[("hall_destination", &[5, 9, 10])],
@@ -59,12 +59,12 @@ pub const WRITE: Command = Command {
 A line with one number is a destination; a line with two is a chute and its destination,
 and the chute has to be the next one, from 1 on, through all halls. A line 'chutes N' may stand first and has to agree
 with the number of chutes. Blank lines and lines that start with # are passed over.",
-    examples: "printf 'hall\\n  7\\n  300\\n0\\n' | hailfeather hall write -o house.plan
-od -An -tx1 house.plan
+    examples: "printf 'hall\\n  7\\n  300\\n0\\n' | hailfeather hall write -o halls.plan
+od -An -tx1 halls.plan
 #  02 01 02 00 07 00 ac 02 00 00
 
-hailfeather hall report house.plan > halls.txt && hailfeather hall write halls.txt -o again.plan &&
-cmp again.plan house.plan && echo the same
+hailfeather hall report halls.plan > halls.txt && hailfeather hall write halls.txt -o again.plan &&
+cmp again.plan halls.plan && echo the same
 # the same",
     refusals: &[("hall_length", &[5, 9])],
     run: write,

@@ -40,6 +40,15 @@ pub trait Listing: Default {
     }
 }
 
+/// The number of chutes that the words after the first line's first give.
+fn declared<T: Listing>(words: &[&[u8]]) -> Result<u64, String> {
+    match words {
+        [count] => saturating(count),
+        _ => None,
+    }
+    .ok_or_else(|| format!("it has to be '{} N', with the number of chutes", T::COUNT))
+}
+
 /// What the lines so far have said.
 #[derive(Default)]
 struct Lines<T> {
@@ -60,8 +69,8 @@ impl<T: Listing> Lines<T> {
         let indentation = text.iter().take_while(|byte| byte.is_ascii_whitespace()).count();
         let level = self.listing.level(&text[..indentation])?;
         match words[..] {
-            [word, _] if word == T::COUNT.as_bytes() && self.begun => return Err(format!("only the first line may be '{} N'", T::COUNT)),
-            [word, count] if word == T::COUNT.as_bytes() => self.declared = Some((number, saturating(count).ok_or(T::LINE)?)),
+            [word, ..] if word == T::COUNT.as_bytes() && self.begun => return Err(format!("only the first line may be '{} N'", T::COUNT)),
+            [word, ref count @ ..] if word == T::COUNT.as_bytes() => self.declared = Some((number, declared::<T>(count)?)),
             _ => self.listing.add(level, &words)?,
         }
         self.begun = true;

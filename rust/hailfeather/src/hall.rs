@@ -14,7 +14,7 @@
 //! use hailfeather::hall::{self, CHUTE, HALL};
 //! let written = hall::to_vec(2, &[HALL, CHUTE, CHUTE, CHUTE], &[2, 7, 300, 0])?;
 //! assert_eq!(written, [0x02, 0x01, 0x02, 0x00, 0x07, 0x00, 0xAC, 0x02, 0x00, 0x00]);
-//! assert_eq!(hall::read(&written)?.chutes, 3);
+//! assert_eq!(hall::summary(&written)?.chutes, 3);
 //! assert_eq!(hall::destination(&written, 2)?, 300);
 //! # Ok::<(), hailfeather::Refusal>(())
 //! ```
@@ -27,7 +27,7 @@ pub const CHUTE: u8 = 0;
 /// The kind of an entry with a hall.
 pub const HALL: u8 = 1;
 
-/// What a hall plan has, as [`read`] answers it.
+/// What a hall plan has, as [`summary`] answers it.
 #[derive(Clone, Copy, Debug, PartialEq, Eq, Hash)]
 pub struct Summary {
     /// The outermost number of entries.
@@ -49,7 +49,7 @@ pub struct Halls {
     pub values: Vec<u32>,
 }
 
-fn summary(entry: &str, read: ffi::hf_halls) -> Result<Summary, Refusal> {
+fn answered(entry: &str, read: ffi::hf_halls) -> Result<Summary, Refusal> {
     check(entry, read.number).map(|()| Summary {
         outer: read.outer,
         entries: read.entries,
@@ -60,16 +60,16 @@ fn summary(entry: &str, read: ffi::hf_halls) -> Result<Summary, Refusal> {
 /// How many entries and chutes a hall plan has. Refuses with 5, 9.
 ///
 /// ```
-/// use hailfeather::hall::{read, Summary};
+/// use hailfeather::hall::{summary, Summary};
 /// let plan = [0x02, 0x01, 0x02, 0x00, 0x07, 0x00, 0xAC, 0x02, 0x00, 0x00];
-/// assert_eq!(read(&plan)?, Summary { outer: 2, entries: 4, chutes: 3 });
-/// assert_eq!(read(&[0x00])?, Summary { outer: 0, entries: 0, chutes: 0 });
-/// assert_eq!(read(&[]).unwrap_err().to_string(), "refused 9: the plan is malformed");
+/// assert_eq!(summary(&plan)?, Summary { outer: 2, entries: 4, chutes: 3 });
+/// assert_eq!(summary(&[0x00])?, Summary { outer: 0, entries: 0, chutes: 0 });
+/// assert_eq!(summary(&[]).unwrap_err().to_string(), "refused 9: the plan is malformed");
 /// # Ok::<(), hailfeather::Refusal>(())
 /// ```
-pub fn read(plan: &[u8]) -> Result<Summary, Refusal> {
+pub fn summary(plan: &[u8]) -> Result<Summary, Refusal> {
     // SAFETY: the pointer comes from a slice with its length; a slice's pointer is never null.
-    summary("hall_read", unsafe { ffi::hf_hall_read(plan.as_ptr(), plan.len()) })
+    answered("hall_read", unsafe { ffi::hf_hall_read(plan.as_ptr(), plan.len()) })
 }
 
 /// The destination of one chute. Refuses with 5, 9, and with 10 where the chute is 0 or greater than this plan's number of chutes.
@@ -82,12 +82,12 @@ pub fn read(plan: &[u8]) -> Result<Summary, Refusal> {
 /// # Ok::<(), hailfeather::Refusal>(())
 /// ```
 pub fn destination(plan: &[u8], chute: u64) -> Result<u32, Refusal> {
-    // SAFETY: as in `read`.
+    // SAFETY: as in `summary`.
     let found = unsafe { ffi::hf_hall_destination(plan.as_ptr(), plan.len(), chute) };
     check("hall_destination", found.number).map(|()| found.destination)
 }
 
-/// Reads a hall plan into two lists, each of exactly the length that [`read`] answers as the number of entries. Refuses with 5, 9.
+/// Reads a hall plan into two lists, each of exactly the length that [`summary`] answers as the number of entries. Refuses with 5, 9.
 ///
 /// ```
 /// use hailfeather::hall::{read_into, CHUTE, HALL};
@@ -99,8 +99,8 @@ pub fn destination(plan: &[u8], chute: u64) -> Result<u32, Refusal> {
 /// # Ok::<(), hailfeather::Refusal>(())
 /// ```
 pub fn read_into(plan: &[u8], kinds: &mut [u8], values: &mut [u32]) -> Result<Summary, Refusal> {
-    // SAFETY: as in `read`; `kinds` and `values` overlap nothing.
-    summary("hall_read_into", unsafe {
+    // SAFETY: as in `summary`; `kinds` and `values` overlap nothing.
+    answered("hall_read_into", unsafe {
         ffi::hf_hall_read_into(
             plan.as_ptr(),
             plan.len(),
@@ -121,7 +121,7 @@ pub fn read_into(plan: &[u8], kinds: &mut [u8], values: &mut [u32]) -> Result<Su
 /// # Ok::<(), hailfeather::Refusal>(())
 /// ```
 pub fn to_halls(plan: &[u8]) -> Result<Halls, Refusal> {
-    let entries = read(plan)?.entries;
+    let entries = summary(plan)?.entries;
     let (mut kinds, mut values) = (vec![0; entries], vec![0; entries]);
     let outer = read_into(plan, &mut kinds, &mut values)?.outer;
     Ok(Halls { outer, kinds, values })
@@ -136,7 +136,7 @@ pub fn to_halls(plan: &[u8]) -> Result<Halls, Refusal> {
 /// # Ok::<(), hailfeather::Refusal>(())
 /// ```
 pub fn length(outer: u64, kinds: &[u8], values: &[u32]) -> Result<usize, Refusal> {
-    // SAFETY: as in `read`.
+    // SAFETY: as in `summary`.
     let needed = unsafe { ffi::hf_hall_length(outer, kinds.as_ptr(), kinds.len(), values.as_ptr(), values.len()) };
     check("hall_length", needed.number).map(|()| needed.length)
 }
@@ -152,7 +152,7 @@ pub fn length(outer: u64, kinds: &[u8], values: &[u32]) -> Result<usize, Refusal
 /// # Ok::<(), hailfeather::Refusal>(())
 /// ```
 pub fn write(outer: u64, kinds: &[u8], values: &[u32], out: &mut [u8]) -> Result<(), Refusal> {
-    // SAFETY: as in `read`; `out` overlaps nothing.
+    // SAFETY: as in `summary`; `out` overlaps nothing.
     check("hall_write", unsafe {
         ffi::hf_hall_write(
             outer,

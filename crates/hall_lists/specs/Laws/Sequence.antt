@@ -78,7 +78,8 @@ sequence-ending s outer at t (breach place) e h q f = tt
 
 sequence-outer : (s : List ℕ) (p : Parsed) → planNumber 0 s ≡ p → NumberAfter s 0 p → SequencePlan s (withOuter p)
 sequence-outer s (value n next rest) e u =
-    sequence-ending s n next rest (entriesOf byteHead levelsBelow n next 0 rest) (ap entriesStart e) (u .inside) (u .left) (sequence-entries levelsBelow n next 0 rest)
+    sequence-ending s n next rest (entriesOf byteHead levelsBelow n next 0 rest) (ap entriesStart e) (u .inside) (u .left)
+    (sequence-entries levelsBelow n next 0 rest)
 sequence-outer s (bad place) e u = tt
 
 pub sequence-plan : (s : List ℕ) → SequencePlan s (hallsOf s)

@@ -80,7 +80,7 @@ impl Reader {
             "plan_write" => written(exactly(given)?, exactly(answer)?),
             "plan_start" => self.walks.begin(exactly(given)?, exactly(answer)?),
             "plan_step" => self.walks.step(exactly(answer)?),
-            "hall_read" => exactly(given).and_then(|[plan]| halls::summary(hall::read(&bytes(plan)), answer)),
+            "hall_read" => exactly(given).and_then(|[plan]| halls::summary(hall::summary(&bytes(plan)), answer)),
             "hall_destination" => exactly(given).and_then(|[plan, chute]| value(hall::destination(&bytes(plan), number(chute)), "0", answer)),
             "hall_read_into" => halls::read_into(exactly(given)?, exactly(answer)?),
             "hall_length" => halls::length(exactly(given)?, answer),
