@@ -35,6 +35,7 @@ use Rattle.hall_theorems.specs.HallTheorems.{summaryOfHall, IsHall, Acce
 use Rattle.hall_theorems.proofs.Trees.{Good, TreeOf, trees, listed-chutes}
 use Rattle.hall_theorems.proofs.Lists.{pairs-back, hall-allowed}
 use Rattle.hall_theorems.proofs.OneHall.{one-hall}
+use Rattle.hall_theorems.proofs.NotBoth.{not-both}
 
 -- a hall plan that reads as a hall
 module _ (h : Hall) (s : List ℕ) (e : hallsOf s ≡ halls (count h) (listed h)) where
@@ -178,5 +179,6 @@ hall-theorems =
       equal-bytes = same-bytes;
       every-hall = every-length;
       length-accepted = asked-accepted;
+      not-both = not-both;
       one-hall = one-hall;
     }

@@ -4,7 +4,7 @@ use mathlib.Core.Path.{_≡_}
 use mathlib.Core.List.{List}
 use lib.ListN.{length}
 use Rattle.answers.specs.Numbers.{done}
-use Rattle.plan.specs.Answers.{lookupOf, lookupIn}
+use Rattle.plan.specs.Answers.{summaryOf, lookupOf, lookupIn}
 use Rattle.plan_length.specs.Length.{lengthOf}
 use Rattle.plan_write.specs.Write.{writeRefusal, writtenOf}
 use Rattle.hall_entry.specs.Entries.{kindsOf, valuesOf}
@@ -62,5 +62,7 @@ pub record HallTheorems : Type 0 where
   -- and a buffer of the length that was asked for first is accepted
   pub length-accepted : (outer : ℕ) (kinds values : List ℕ) → hallLengthOf outer kinds values .number ≡ done
       → hallWriteRefusal outer kinds values (hallLengthOf outer kinds values .length) ≡ done
+  -- bytes that are accepted as a flat plan and as a hall plan have no rows and no entries: a plan of the wrong sort is refused
+  pub not-both : (s : List ℕ) → summaryOf s .number ≡ done → hallSummaryOf s .number ≡ done → (summaryOf s .rows ≡ 0) × (hallSummaryOf s .outer ≡ 0)
   -- a hall's number of entries and its two lists tell one hall from every other
   pub one-hall : (h k : Hall) → count h ≡ count k → kindsOf (listed h) ≡ kindsOf (listed k) → valuesOf (listed h) ≡ valuesOf (listed k) → h ≡ k
