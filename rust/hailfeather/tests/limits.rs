@@ -101,8 +101,11 @@ fn hall_plans() {
     assert_eq!([0, 1].map(|more| number(hall::length((1 << 32) * more, &[], &[]))), [0, 9]);
     let longest = halls_and_chute(32_765, 128).unwrap();
     let (outer, entries) = (32_766, 32_766);
-    assert_eq!((longest.len(), hall::summary(&longest)), (PLAN, Ok(Summary { outer, entries, chutes: 1 })));
+    assert_eq!(
+        (longest.len(), hall::summary(&longest)),
+        (PLAN, Ok(Summary { outer, entries, chutes: 1 }))
+    );
     assert_eq!(number(halls_and_chute(32_765, 16_384)), 5);
-    assert_eq!(sides(PLAN, hall::read), [9, 5]);
+    assert_eq!(sides(PLAN, hall::summary), [9, 5]);
     assert_eq!(sides(PLAN, |out| hall::write(0, &[], &[], &mut out.to_vec())), [9, 5]);
 }
