@@ -1,11 +1,13 @@
 -- A round in the state itself, and rounds with the constants of a list. A round takes row 0 of its state as an argument t, which the round before it hands on:
 -- the code keeps those five lanes in registers. It is defined for every t; it is FIPS 202's round where t is the state's row 0 (`Laws.Passes.round-is`).
+use mathlib.Core.Path.{_≡_}
 use mathlib.Core.List.{List}
-use Prim.Native.Nat.{ℕ, zero, suc, _+_, _-_, _*_, _%_}
+use Prim.Native.Nat.{ℕ, zero, suc, _+_, _-_, _*_, _%_, _<_}
 use lib.Bits.{bitXor}
 use lib.ListN.{getD}
-use Rattle.fips202.specs.Fips202.{tableFrom, lane, theta, rho, pi, chi, iota}
-use Rattle.in_place.specs.Places.{Places, held, store, place, lanes}
+use Rattle.fips202.specs.Fips202.{tableFrom, lane, theta, rho, pi, chi, iota, roundConstant}
+use Rattle.in_place.specs.Complemented.{complemented}
+use Rattle.in_place.specs.Places.{Places, standing, held, store, place, lanes}
 use Rattle.in_place.specs.Rows.{effect, heldRow, heldFirstRow}
 
 -- ---- a row where it stands
@@ -34,10 +36,10 @@ firstRow a = tableFrom 5 0 (λ x. lane a x 0)
 unfoldable pub parities : List ℕ → List ℕ → List ℕ
 parities t a = tableFrom 5 0 (λ x. bitXor (bitXor (bitXor (bitXor (getD t x 0) (lane a x 1)) (lane a x 2)) (lane a x 3)) (lane a x 4))
 
--- ---- a round: rows 1 to 4 passed, then row 0 with the constant k
+-- ---- a round: rows 4, 3, 1 and 2 passed, then row 0 with the constant k
 
 abbrev pub fourRows : ℕ → List ℕ → Places → Places
-fourRows r d s = passed r 4 d (passed r 3 d (passed r 2 d (passed r 1 d s)))
+fourRows r d s = passed r 2 d (passed r 1 d (passed r 3 d (passed r 4 d s)))
 
 abbrev pub effectOf : ℕ → List ℕ → Places → List ℕ
 effectOf r t s = effect (parities t (lanes r s))
@@ -51,7 +53,15 @@ placesAfter r t k s = put (1 - r) 0 (rowAfter r t k s) (fourRows r (effectOf r t
 
 -- ---- rounds
 
+-- the state that the two arrays hold between permutations
+abbrev pub stateOf : List ℕ → List ℕ → List ℕ
+stateOf p q = complemented (lanes 0 (standing p q))
+
 -- n rounds of FIPS 202, with the constants of a list
 unfoldable pub roundsWith : ℕ → List ℕ → List ℕ → List ℕ
 roundsWith zero ks a = a
 roundsWith (suc n) ks a = iota (getD ks n 0) (chi (pi (rho (theta (roundsWith n ks a)))))
+
+-- a list of the 24 round constants
+abbrev pub RoundConstants : List ℕ → Type 0
+RoundConstants ks = (i : ℕ) → i < 24 → getD ks i 0 ≡ roundConstant i

@@ -97,11 +97,11 @@ fn step4(p: &mut [u64; 15], q: &mut [u64; 10], d0: u64, d1: u64, d2: u64, d3: u6
     p[14] = e[4];
 }
 
-// The round with the constant at i of the twelve, i taken modulo 12, that takes t for row 0; what is returned is row 0 after it. The constant is read where it
+// The round with the constant at i of the 24, i taken modulo 24, that takes t for row 0; what is returned is row 0 after it. The constant is read where it
 // is used, at the round's end: read before the round it would hold a register.
-pub fn odd(p: &mut [u64; 15], q: &mut [u64; 10], t: [u64; 5], k: &[u64; 12], i: usize) -> [u64; 5]
-    ensures { λ r. ⌜ (r ≡ rowAfter 1 t (getD (now (k .entry)) (i % 12) 0) (standing (now (p .entry)) (now (q .entry))))
-        × (standing (now (p .exit)) (now (q .exit)) ≡ placesAfter 1 t (getD (now (k .entry)) (i % 12) 0) (standing (now (p .entry)) (now (q .entry)))) ⌝ }
+pub fn odd(p: &mut [u64; 15], q: &mut [u64; 10], t: [u64; 5], k: &[u64; 24], i: usize) -> [u64; 5]
+    ensures { λ r. ⌜ (r ≡ rowAfter 1 t (getD (now (k .entry)) (i % 24) 0) (standing (now (p .entry)) (now (q .entry))))
+        × (standing (now (p .exit)) (now (q .exit)) ≡ placesAfter 1 t (getD (now (k .entry)) (i % 24) 0) (standing (now (p .entry)) (now (q .entry)))) ⌝ }
 {
     let d = effect(parities(p, q, t));
     let d0 = d[0];
@@ -109,9 +109,9 @@ pub fn odd(p: &mut [u64; 15], q: &mut [u64; 10], t: [u64; 5], k: &[u64; 12], i: 
     let d2 = d[2];
     let d3 = d[3];
     let d4 = d[4];
+    step4(p, q, d0, d1, d2, d3, d4);
+    step3(p, q, d0, d1, d2, d3, d4);
     step1(p, q, d0, d1, d2, d3, d4);
     step2(p, q, d0, d1, d2, d3, d4);
-    step3(p, q, d0, d1, d2, d3, d4);
-    step4(p, q, d0, d1, d2, d3, d4);
-    step0(p, q, d0, d1, d2, d3, d4, k[i % 12])
+    step0(p, q, d0, d1, d2, d3, d4, k[i % 24])
 }

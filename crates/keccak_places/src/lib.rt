@@ -3,7 +3,7 @@
 // 20 are held inverted.
 ghost use mathlib.Core.Path.{_≡_};
 ghost use Rattle.in_place.specs.Complemented.{complemented};
-ghost use Rattle.in_place.specs.Places.{standing, lanes, evenColumns, oddColumns};
+ghost use Rattle.in_place.specs.Places.{standing, Known, lanes, evenColumns, oddColumns};
 
 // A lane of ones: `x ^ ONES` inverts x.
 const ONES: u64 = 0xffff_ffff_ffff_ffff;
@@ -80,3 +80,8 @@ pub fn joined(p: [u64; 15], q: [u64; 10]) -> [u64; 25]
         p[14],
     ]
 }
+
+// What the types say of the two arrays, which a proof cannot read through a reference. No code is made of it.
+pub fn known(p: [u64; 15], q: [u64; 10])
+    ensures { λ r. ⌜ Known (standing p q) ⌝ }
+{}

@@ -6,14 +6,14 @@ use native.Mathlib.Nat.{add-zero, zero-add, suc-add}
 use native.Mathlib.Decide.{decLe}
 use native.Mathlib.Omega.{arith}
 use lib.ListN.{length, take, drop, take-append-drop, length-take, length-drop}
-use lib.Seq.{take-add, sets}
+use lib.Seq.{take-add, take-all, drop-drop, sets}
 use borrow.Author.Tests.{lt-ltb, le-ltb}
 use Rattle.fips202.specs.Fips202.{keccakP}
 use Rattle.fips202.specs.Bytes.{xorByte, xorBytes, byteAt, bytesAt}
 use Rattle.fips202.specs.Laws.Bytes.{bytesAt-append, length-bytesAt}
 use Rattle.encode.specs.Padding.{rate}
 use Rattle.lanes_out.specs.Laws.{sets-append}
-use Rattle.sponge.specs.Sponge.{absorb}
+use Rattle.blocks.specs.Blocks.{absorb, wholeBlocks}
 use Rattle.sponge.specs.Running.{Running, running, absorbByte, absorbed, refreshed, squeezedByte, afterByte, squeezed, after}
 
 -- ---- absorbing
@@ -49,16 +49,55 @@ absorbed-block (b ∷ (d ∷ bs)) a p k h =
     ap (λ (s : Running). absorbed s (d ∷ bs)) (absorbByte-in a p b (omega arith))
     ∙ absorbed-block (d ∷ bs) (xorByte a p b) (p + 1) (omega arith) (omega arith)
 
--- whole blocks: the definition by blocks
-pub absorbed-blocks : (n : ℕ) (a m : List ℕ) → length m ≡ n * rate → absorbed (running a 0) m ≡ running (absorb n a m) 0
+-- n whole blocks: the definition by blocks
+pub absorbed-blocks : (n : ℕ) (a m : List ℕ) → n * rate ≤ length m → absorbed (running a 0) (take (n * rate) m) ≡ running (absorb n a m) 0
 unfolding absorbed absorb
-absorbed-blocks zero a [] h = refl
-absorbed-blocks zero a (x ∷ m) h = absurd (omega arith)
+absorbed-blocks zero a m h = refl
 absorbed-blocks (suc n) a m h =
-    ap (absorbed (running a 0)) (sym (take-append-drop rate m))
-    ∙ absorbed-append (running a 0) (take rate m) (drop rate m)
-    ∙ ap (λ (s : Running). absorbed s (drop rate m)) (absorbed-block (take rate m) a 0 (omega arith) (simp length-take (omega arith)))
+    let e : suc n * rate ≡ rate + n * rate = omega arith in
+    ap (absorbed (running a 0)) (ap (λ (k : ℕ). take k m) e ∙ take-add rate (n * rate) m)
+    ∙ absorbed-append (running a 0) (take rate m) (take (n * rate) (drop rate m))
+    ∙ ap (λ (s : Running). absorbed s (take (n * rate) (drop rate m))) (absorbed-block (take rate m) a 0 (omega arith) (simp length-take (omega arith)))
     ∙ absorbed-blocks n (keccakP (xorBytes a 0 (take rate m))) (drop rate m) (simp length-drop (omega arith))
+
+-- ---- a piece l of input, from a place on where a block begins: i is the place after its whole blocks, of which n bytes are left
+
+pub absorbed-from : (l a b c : List ℕ) (from i n : ℕ) → i ≡ from + wholeBlocks l from * rate → b ≡ absorb (wholeBlocks l from) a (drop from l)
+    → n ≡ min rate (length l - i) → c ≡ xorBytes b 0 (take n (drop i l)) → (running c n ≡ absorbed (running a 0) (drop from l)) × (n < rate)
+absorbed-from l a b c from i n ei eb en ec =
+    let k : ℕ = wholeBlocks l from in
+    let m : List ℕ = drop from l in
+    let rest : List ℕ = drop i l in
+    let h : length rest ≡ length l - i = length-drop i l in
+    let e : drop (k * rate) m ≡ rest = drop-drop (k * rate) from l ∙ ap (λ (x : ℕ). drop x l) (sym ei) in
+    let t : take n rest ≡ rest = take-all n rest (omega arith) in (
+      sym
+          (ap (absorbed (running a 0)) (sym (take-append-drop (k * rate) m))
+          ∙ absorbed-append (running a 0) (take (k * rate) m) (drop (k * rate) m)
+          ∙ ap₂ absorbed (absorbed-blocks k a m (simp length-drop (omega arith))) e
+          ∙ absorbed-in rest (absorb k a m) 0 (omega arith)
+          ∙ ap₂ running (ap₂ (λ (x y : List ℕ). xorBytes x 0 y) (sym eb) (sym t) ∙ sym ec) (omega arith)),
+      omega arith,
+    )
+
+-- ---- a piece l in a block that has begun: n bytes are put in first
+
+-- they are all of it
+pub absorbed-begun : (l a b : List ℕ) (p n : ℕ) → n ≡ min (rate - p) (length l) → b ≡ xorBytes a p (take n l) → p + n < rate
+    → running b (p + n) ≡ absorbed (running a p) l
+absorbed-begun l a b p n en eb h =
+    let t : take n l ≡ l = take-all n l (omega arith) in
+    sym (absorbed-in l a p (omega arith) ∙ ap₂ running (ap (xorBytes a p) (sym t) ∙ sym eb) (omega arith))
+
+-- they fill the block
+pub absorbed-filled : (l a b : List ℕ) (p n : ℕ) → p < rate → n ≡ min (rate - p) (length l) → b ≡ xorBytes a p (take n l) → rate ≤ p + n
+    → absorbed (running (keccakP b) 0) (drop n l) ≡ absorbed (running a p) l
+absorbed-filled l a b p n hp en eb h =
+    sym
+    (ap (absorbed (running a p)) (sym (take-append-drop n l))
+    ∙ absorbed-append (running a p) (take n l) (drop n l)
+    ∙ ap (λ (s : Running). absorbed s (drop n l))
+    (absorbed-block (take n l) a p hp (simp length-take (omega arith)) ∙ ap (λ (x : List ℕ). running (keccakP x) 0) (sym eb)))
 
 -- ---- a block that is full, or has been squeezed whole
 
@@ -69,25 +108,6 @@ refreshed-in a p h = rw (lt-ltb p rate h)
 pub refreshed-out : (a : List ℕ) (p : ℕ) → rate ≤ p → refreshed (running a p) ≡ running (keccakP a) 0
 unfolding refreshed
 refreshed-out a p h = rw (le-ltb p rate h)
-
--- bytes that the block has room for: put in, and permuted where they fill it
-absorbed-refreshed : (bs a : List ℕ) (p : ℕ) → p < rate → p + length bs ≤ rate
-    → absorbed (running a p) bs ≡ refreshed (running (xorBytes a p bs) (p + length bs))
-absorbed-refreshed bs a p h k = elim (decLe rate (p + length bs)) [
-  | yes full ↦ absorbed-block bs a p h (omega arith) ∙ sym (refreshed-out (xorBytes a p bs) (p + length bs) full)
-  | no room ↦ absorbed-in bs a p (omega arith) ∙ sym (refreshed-in (xorBytes a p bs) (p + length bs) (omega arith))
-]
-
--- a turn of a loop that absorbs l: as many bytes more as the block has room for
-pub absorbed-turn : (s : Running) (l a b : List ℕ) (i p n : ℕ) → running a p ≡ absorbed s (take i l) → p < rate → n ≡ min (rate - p) (length l - i)
-    → b ≡ xorBytes a p (take n (drop i l)) → refreshed (running b (p + n)) ≡ absorbed s (take (i + n) l)
-absorbed-turn s l a b i p n e h en eb =
-    let m : length (take n (drop i l)) ≡ n = simp (length-take, length-drop) (omega arith) in
-    ap₂ (λ (x : List ℕ) (k : ℕ). refreshed (running x (p + k))) eb (sym m)
-    ∙ sym (absorbed-refreshed (take n (drop i l)) a p h (omega arith))
-    ∙ ap (λ (t : Running). absorbed t (take n (drop i l))) e
-    ∙ sym (absorbed-append s (take i l) (take n (drop i l)))
-    ∙ ap (absorbed s) (sym (take-add i n l))
 
 -- ---- squeezing
 

@@ -14,7 +14,8 @@ use Rattle.encode.specs.Laws.Padding.{padded-split, padding-set, length-padding
 use Rattle.encode.specs.Laws.Lengths.{length-padded}
 use Rattle.fips202.specs.Bytes.{xorByte, xorBytes, byteAt, bytesAt}
 use Rattle.fips202.specs.Laws.Bytes.{xorBytes-set, xorBytes-zeros, bytesAt-append, length-bytesAt}
-use Rattle.sponge.specs.Sponge.{absorb, squeeze, sponge}
+use Rattle.blocks.specs.Blocks.{absorb}
+use Rattle.sponge.specs.Sponge.{squeeze, sponge}
 use Rattle.sponge.specs.Same.{SameSponge}
 use Rattle.sponge.specs.Running.{Running, running, fresh, absorbByte, absorbed, finished, refreshed, squeezedByte, afterByte, squeezed, after}
 use Rattle.sponge.proofs.Absorbing.{absorbByte-in, absorbByte-last, absorbed-append, absorbed-block, absorbed-blocks}
@@ -63,7 +64,8 @@ absorbed-whole suffix m =
     ∙ ap (λ (x : ℕ). absorbed f (padding suffix (rate - x))) e
     ∙ sym (absorbed-append fresh m (padding suffix q))
     ∙ ap (absorbed fresh) (sym (padded-split suffix m))
-    ∙ absorbed-blocks (length (padded suffix m) / rate) (replicate 25 0) (padded suffix m) n
+    ∙ ap (absorbed fresh) (sym (take-length (padded suffix m)) ∙ ap (λ (k : ℕ). take k (padded suffix m)) n)
+    ∙ absorbed-blocks (length (padded suffix m) / rate) (replicate 25 0) (padded suffix m) (omega arith)
 
 -- ---- the output
 

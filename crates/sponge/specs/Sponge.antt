@@ -1,17 +1,13 @@
 -- The sponge with Keccak-p[1600, 24] at a rate of 136 bytes: FIPS 202, chapter 4, over input that is padded already.
 use Prim.Native.Nat.{ℕ, zero, suc, _/_}
 use mathlib.Core.List.{List, [], _++_}
-use lib.ListN.{length, take, drop, replicate}
+use lib.ListN.{length, take, replicate}
 use Rattle.fips202.specs.Fips202.{keccakP}
-use Rattle.fips202.specs.Bytes.{xorBytes, bytesAt}
+use Rattle.fips202.specs.Bytes.{bytesAt}
 use Rattle.encode.specs.Padding.{rate, blocks}
+use Rattle.blocks.specs.Blocks.{absorb}
 
--- 4, algorithm 8, steps 5 and 6: n blocks of input, each put in and permuted
-unfoldable pub absorb : ℕ → List ℕ → List ℕ → List ℕ
-absorb zero a m = a
-absorb (suc n) a m = absorb n (keccakP (xorBytes a 0 (take rate m))) (drop rate m)
-
--- steps 7 to 10: n blocks of output, permuted between
+-- 4, algorithm 8: steps 5 and 6 are Blocks.absorb; steps 7 to 10: n blocks of output, permuted between
 unfoldable pub squeeze : ℕ → List ℕ → List ℕ
 squeeze zero a = []
 squeeze (suc n) a = bytesAt a 0 rate ++ squeeze n (keccakP a)

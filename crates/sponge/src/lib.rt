@@ -2,9 +2,10 @@
 // the next byte in the block. A position at which the block is full, or beyond, is taken modulo 136 by the functions that put bytes in.
 ghost use mathlib.Core.Path.{_≡_};
 ghost use Prim.Native.Nat.{_%_, _<_};
-ghost use lib.ListN.{length, replicate};
+ghost use lib.ListN.{length, drop, replicate};
 ghost use Rattle.encode.specs.Padding.{rate, shortfall};
 ghost use Rattle.sponge.specs.Running.{running, absorbed, finished, refreshed, squeezed, after};
+use blocks::absorb_blocks;
 use encode::RATE;
 use keccak::permute;
 use lanes_in::xor_byte;
@@ -22,18 +23,28 @@ fn refresh(lanes: &mut [u64; 25], p: usize) -> usize
     0
 }
 
+// The piece from `from` on, where a block begins: its whole blocks, and the beginning of the next one; the position after it.
+fn absorb_from(lanes: &mut [u64; 25], piece: &[u8], from: usize) -> usize
+    ensures { λ r. ⌜ (running (now (lanes .exit)) r ≡ absorbed (running (now (lanes .entry)) 0) (drop from (now (piece .entry)))) × (r < rate) ⌝ }
+{
+    let at = absorb_blocks(lanes, piece, from);
+    xor_in(lanes, 0, piece, at)
+}
+
 // A piece of input put in from `position` on; the position after it.
 pub fn absorb(lanes: &mut [u64; 25], position: usize, piece: &[u8]) -> usize
     ensures { λ r. ⌜ (running (now (lanes .exit)) r ≡ absorbed (running (now (lanes .entry)) (position % rate)) (now (piece .entry))) × (r < rate) ⌝ }
 {
-    let mut p = position % RATE;
-    let mut i = 0;
-    while i < piece.len() {
-        let n = xor_in(lanes, p, piece, i);
-        p = refresh(lanes, p + n);
-        i += n;
+    let p = position % RATE;
+    if p == 0 {
+        return absorb_from(lanes, piece, 0);
     }
-    p
+    let n = xor_in(lanes, p, piece, 0);
+    if p + n < RATE {
+        return p + n;
+    }
+    permute(lanes);
+    absorb_from(lanes, piece, n)
 }
 
 // Zeros put in to the end of the block that has begun, as bytepad asks: they change no byte.

@@ -46,7 +46,7 @@ Rows r d k s =
     × (first r d k s ≡ firstRow (lanes (1 - r) (put (1 - r) 0 (first r d k s) (fourRows r d s))))
 
 -- what holds of places written out
-by-places : (P : Places → Type 0) → ((f g : ℕ → ℕ) → P (standing (tableFrom 15 0 f) (tableFrom 10 0 g))) → (s : Places) → Known s → P s
+pub by-places : (P : Places → Type 0) → ((f g : ℕ → ℕ) → P (standing (tableFrom 15 0 f) (tableFrom 10 0 g))) → (s : Places) → Known s → P s
 by-places P h s k =
     subst (λ (xs : List ℕ). P (standing xs (s .q))) (sym (written-out (s .p) (k .long-p)))
     (subst (λ (ys : List ℕ). P (standing (tableFrom 15 0 (λ i. getD (s .p) i 0)) ys)) (sym (written-out (s .q) (k .long-q)))
@@ -101,7 +101,7 @@ unfolding effect
 elements-are c d e = ap elements e
 
 pub round-made : (r : ℕ) (s s1 s2 s3 s4 s5 : Places) (t c d e : List ℕ) (k : ℕ) → c ≡ parities t (lanes r s) → d ≡ effect c
-    → s1 ≡ passed r 1 (elements d) s → s2 ≡ passed r 2 (elements d) s1 → s3 ≡ passed r 3 (elements d) s2 → s4 ≡ passed r 4 (elements d) s3
+    → s1 ≡ passed r 4 (elements d) s → s2 ≡ passed r 3 (elements d) s1 → s3 ≡ passed r 1 (elements d) s2 → s4 ≡ passed r 2 (elements d) s3
     → e ≡ heldFirstRow (taken r 0 (elements d) s4) k → s5 ≡ put (1 - r) 0 e s4
     → (e ≡ rowAfter r t k s) × (s5 ≡ placesAfter r t k s)
 unfolding rowAfter placesAfter
@@ -109,6 +109,6 @@ round-made r s s1 s2 s3 s4 s5 t c d e k ec ed e1 e2 e3 e4 ee e5 =
     let x : List ℕ = elements d in
     let f : x ≡ effectOf r t s = elements-are c d ed ∙ ap effect ec in
     let g : s4 ≡ fourRows r (effectOf r t s) s
-    = e4 ∙ ap (passed r 4 x) (e3 ∙ ap (passed r 3 x) (e2 ∙ ap (passed r 2 x) e1)) ∙ ap (λ (u : List ℕ). fourRows r u s) f in
+    = e4 ∙ ap (passed r 2 x) (e3 ∙ ap (passed r 1 x) (e2 ∙ ap (passed r 3 x) e1)) ∙ ap (λ (u : List ℕ). fourRows r u s) f in
     let fe : e ≡ rowAfter r t k s = ee ∙ ap₂ (λ (u : Places) (v : List ℕ). heldFirstRow (taken r 0 v u) k) g f in
     (fe, e5 ∙ ap₂ (put (1 - r) 0) fe g)

@@ -4,11 +4,12 @@ use mathlib.Core.List.{List}
 use Prim.Native.Nat.{ℕ, zero, suc, _+_, _*_, _%_, _<_}
 use native.Mathlib.Nat.{add-zero, add-suc, mod-eq-of-lt}
 use native.Mathlib.Omega.{arith}
-use lib.ListN.{getD}
-use Rattle.fips202.specs.Fips202.{theta, rho, pi, chi, iota, roundConstant, round, rounds}
+use lib.ListN.{length, getD}
+use Rattle.fips202.specs.Fips202.{theta, rho, pi, chi, iota, roundConstant, round, rounds, keccakP}
 use Rattle.in_place.specs.Complemented.{masked, complemented}
 use Rattle.in_place.specs.Places.{Places, standing, Known, lanes, evenColumns, oddColumns}
-use Rattle.in_place.specs.Rounds.{firstRow, rowAfter, placesAfter, roundsWith}
+use Rattle.in_place.specs.Rounds.{firstRow, rowAfter, placesAfter, stateOf, roundsWith, RoundConstants}
+use Rattle.in_place.specs.Laws.Complementing.{complemented-twice}
 use Rattle.in_place.specs.Laws.Passes.{RoundIs, even-round, odd-round}
 
 -- ---- n rounds from the state a, n being even: row 0 is at hand, and the places mean the state after them
@@ -28,13 +29,13 @@ two-more ks a s u v k l i hk hl hs hu hv =
     ∙ ap₂ step (hl ∙ ap (λ (n : ℕ). getD ks n 0) d) (hu ∙ ap₂ step hk hs)
     ∙ sym (ap (λ (n : ℕ). roundsWith n ks a) e)
 
--- a turn: the constants are read at 2 i and 2 i + 1 of twelve
-module _ (ks a : List ℕ) (i : ℕ) (h : i < 6) where
+-- a turn: the constants are read at 2 i and 2 i + 1 of 24
+module _ (ks a : List ℕ) (i : ℕ) (h : i < 12) where
   abbrev k : ℕ
-  k = getD ks (2 * i % 12) 0
+  k = getD ks (2 * i % 24) 0
 
   abbrev l : ℕ
-  l = getD ks ((2 * i + 1) % 12) 0
+  l = getD ks ((2 * i + 1) % 24) 0
 
   pub two-rounds : (s s1 s2 : Places) (t u v : List ℕ) → Known s → Known s1 → Reached ks a (2 * i) s t
       → u ≡ rowAfter 0 t k s → s1 ≡ placesAfter 0 t k s → v ≡ rowAfter 1 u l s1 → s2 ≡ placesAfter 1 u l s1 → Reached ks a (2 * (i + 1)) s2 v
@@ -49,17 +50,24 @@ module _ (ks a : List ℕ) (i : ℕ) (h : i < 6) where
             (at .state) (ap (λ (x : Places). complemented (lanes 1 x)) e1 ∙ even .round) (ap (λ (x : Places). complemented (lanes 0 x)) e2 ∙ odd .round);
       }
 
--- ---- n rounds after the first m, with their constants
+-- ---- the first n rounds, where the list has their constants
 
-pub more : (n m : ℕ) (ks a : List ℕ) → ((i : ℕ) → i < n → getD ks i 0 ≡ roundConstant (m + i)) → roundsWith n ks (rounds m a) ≡ rounds (m + n) a
+all-rounds : (n : ℕ) (ks a : List ℕ) → ((i : ℕ) → i < n → getD ks i 0 ≡ roundConstant i) → roundsWith n ks a ≡ rounds n a
 unfolding roundsWith rounds round
-more zero m ks a h = ap (λ (i : ℕ). rounds i a) (sym (add-zero m))
-more (suc n) m ks a h =
-    ap₂ (λ (k : ℕ) (xs : List ℕ). iota k (chi (pi (rho (theta xs))))) (h n (omega arith)) (more n m ks a (λ i l. h i (omega arith)))
-    ∙ ap (λ (i : ℕ). rounds i a) (sym (add-suc m n))
+all-rounds zero ks a h = refl
+all-rounds (suc n) ks a h =
+    ap₂ (λ (k : ℕ) (xs : List ℕ). iota k (chi (pi (rho (theta xs))))) (h n (omega arith)) (all-rounds n ks a (λ i l. h i (omega arith)))
+
+-- 24 of them are the permutation
+pub permutation : (ks a : List ℕ) → RoundConstants ks → roundsWith 24 ks a ≡ keccakP a
+unfolding keccakP
+permutation ks a h = all-rounds 24 ks a h
 
 -- ---- a state is that of its columns
 
-pub columns : (a : List ℕ) → lanes 0 (standing (evenColumns (complemented a)) (oddColumns (complemented a))) ≡ complemented a
+columns : (a : List ℕ) → lanes 0 (standing (evenColumns (complemented a)) (oddColumns (complemented a))) ≡ complemented a
 unfolding lanes evenColumns oddColumns complemented masked
 columns a = refl
+
+pub placed : (a : List ℕ) → length a ≡ 25 → stateOf (evenColumns (complemented a)) (oddColumns (complemented a)) ≡ a
+placed a h = ap complemented (columns a) ∙ complemented-twice a h

@@ -3,18 +3,17 @@ use mathlib.Core.Path.{_≡_, refl}
 use Prim.Native.Nat.{_-_, _*_, _≤_}
 use native.Mathlib.Omega.{arith}
 use lib.Dec.{lit<}
-use Rattle.in_place.specs.Complemented.{complemented}
 use Rattle.in_place.specs.Places.{standing, lanes}
-use Rattle.in_place.specs.Rounds.{firstRow, roundsWith}
+use Rattle.in_place.specs.Rounds.{firstRow, stateOf, roundsWith}
 use Rattle.in_place.specs.Laws.Turns.{Reached, two-rounds}
-use Rattle.keccak.proofs.twelve.Statement.{statement}
-use Rattle.keccak.proofs.twelve.Tie as tie
+use Rattle.keccak_rounds.proofs.rounds.Statement.{statement}
+use Rattle.keccak_rounds.proofs.rounds.Tie as tie
 
 abbrev Inv-loop : tie.InvT-loop
-Inv-loop p₀ q₀ k t₀ i₀ p q t i = (i ≤ 6) × Reached k (complemented (lanes 0 (standing p₀ q₀))) (2 * i) (standing p q) t
+Inv-loop p₀ q₀ k t₀ i₀ p q t i = (i ≤ 12) × Reached k (stateOf p₀ q₀) (2 * i) (standing p q) t
 
 abbrev μ-loop : tie.MeasureT-loop
-μ-loop p₀ q₀ k t₀ i₀ p q t i = 6 - i
+μ-loop p₀ q₀ k t₀ i₀ p q t i = 12 - i
 
 loop-holds : tie.Need-loop-holds Inv-loop μ-loop
 unfolding firstRow lanes roundsWith
@@ -29,18 +28,18 @@ loop-again c =
     let a = turn .before .before .before .before .before .before .args in
     let ends = c .odd .ensures in (
       omega arith,
-      two-rounds (a .k .now) (complemented (lanes 0 (standing (a .p .now) (a .q .now)))) (turn .loop .i) (omega arith) _ _ _ _ _ _
+      two-rounds (a .k .now) (stateOf (a .p .now) (a .q .now)) (turn .loop .i) (omega arith) _ _ _ _ _ _
           (known-even .known .ensures) (known-odd .known2 .ensures) (turn .loop .inv .1)
           (even .even .ensures .0) (even .even .ensures .1) (ends .0) (ends .1),
     )
 
 returns : tie.Need-returns Inv-loop μ-loop
 returns c =
-    let e : 2 * c .before .loop .i ≡ 12 = omega arith in
+    let e : 2 * c .before .loop .i ≡ 24 = omega arith in
     rw e at (c .before .loop .inv .1 .state)
 
-pub twelve-spec : {M : Type 1} → statement M
-twelve-spec =
+pub rounds-spec : {M : Type 1} → statement M
+rounds-spec =
     tie.close
     (tie.spec
     Inv-loop

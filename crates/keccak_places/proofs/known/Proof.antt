@@ -1,8 +1,8 @@
 -- The arrays' own relations, which hold of a parameter by value.
 use borrow.Author.Needs.{needs}
 use Rattle.fips202.specs.Laws.Lanes.{fitting}
-use Rattle.keccak.proofs.known.Statement.{statement}
-use Rattle.keccak.proofs.known.Tie as tie
+use Rattle.keccak_places.proofs.known.Statement.{statement}
+use Rattle.keccak_places.proofs.known.Tie as tie
 
 returns : tie.Need-returns
 returns c =

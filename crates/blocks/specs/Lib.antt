@@ -1,0 +1,3 @@
+-- Whole blocks put into the sponge; then the same on the places of the state.
+pub mod Blocks
+pub mod Columns

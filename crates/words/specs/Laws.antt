@@ -1,0 +1,2 @@
+-- Laws on the definitions, for the crates that build on them.
+pub mod Lanes
