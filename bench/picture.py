@@ -60,9 +60,9 @@ def drawn(rows, scale):
     return parts, y
 
 
-def grid(most, scale, end):
+def grid(quarters, scale, end):
     """A faint line at each quarter, and a strong one where both are as fast."""
-    for quarter in range(4 * most + 1):
+    for quarter in range(quarters + 1):
         ratio, x = quarter / 4, LEFT + quarter / 4 * scale
         colour, width = (INK, 1.5) if ratio == 1 else (FAINT, 1)
         yield f'<line x1="{x:.1f}" y1="{TOP - 8}" x2="{x:.1f}" y2="{end}" stroke="{colour}" stroke-width="{width}"/>'
@@ -79,13 +79,13 @@ def heading():
 
 
 def picture(rows):
-    most = math.ceil(max(ratio for _, _, ratios in rows for ratio in ratios if ratio is not None))
-    scale = (WIDTH - LEFT - RIGHT) / most
+    quarters = math.ceil(4 * max(ratio for _, _, ratios in rows for ratio in ratios if ratio is not None))
+    scale = (WIDTH - LEFT - RIGHT) / quarters * 4
     parts, end = drawn(rows, scale)
     return "\n".join([
         f'<svg xmlns="http://www.w3.org/2000/svg" width="{WIDTH}" height="{end + FOOT}" viewBox="0 0 {WIDTH} {end + FOOT}"'
         f' font-family="sans-serif" font-size="12" fill="{INK}">',
-        '<rect width="100%" height="100%" fill="#ffffff"/>', *heading(), *grid(most, scale, end), *parts, "</svg>",
+        '<rect width="100%" height="100%" fill="#ffffff"/>', *heading(), *grid(quarters, scale, end), *parts, "</svg>",
     ])
 
 
