@@ -15,8 +15,8 @@
 struct work work;
 
 /* The machine's pace changes, for microseconds and for seconds. Turns are short, so that each worker has some that fall whole into one pace; and a row is not
-   measured at one go but in many visits, so that a slow second takes a part of every row and not all of one. The least of so many turns would be chance:
-   a burst that one worker met and another did not, or the clock's own error when another program came between. */
+   measured at one go but in many visits, so that a slow second takes a part of every row and not all of one. The least of so many turns
+   differs too much from run to run to be of use; docs/PERFORMANCE.md has by how much. */
 static const double TURN = 1e5, VISIT = 2.5e7; /* nanoseconds; work that is longer than a turn makes longer visits, for the least number of turns */
 enum { LEAST_TURNS = 6, MOST_TURNS = 150, MEASURED = 64 };
 
@@ -48,7 +48,7 @@ static struct timed {
     double ns[WORKERS][VISITS * MOST_TURNS]; /* in ascending order once they are printed */
 } timed[MEASURED];
 
-/* How often to run in a turn, by the longest of three runs, since the clock can err to either side. The first, which may set things up, does not count. */
+/* How often to run in a turn, by the longest of three runs: one that seemed too short would make a turn without end. The first, which may set things up, does not count. */
 static long times_of(task *run, size_t size)
 {
     double once = 1;
