@@ -48,7 +48,8 @@ static struct timed {
     double ns[WORKERS][VISITS * MOST_TURNS]; /* in ascending order once they are printed */
 } timed[MEASURED];
 
-/* How often to run in a turn, by the longest of three runs: one that seemed too short would make a turn without end. The first, which may set things up, does not count. */
+/* How often to run in a turn, by the longest of three runs: one that seemed too short would make a turn without end. A first, which may set things up, does
+   not count. */
 static long times_of(task *run, size_t size)
 {
     double once = 1;
