@@ -15,22 +15,27 @@ static EVP_MAC_CTX *mac_context(void)
     return context;
 }
 
-static EVP_MD_CTX *digest_context(void)
+static EVP_MD_CTX *new_digest(void)
 {
-    static EVP_MD_CTX *context;
-    if (context == NULL) {
-        context = EVP_MD_CTX_new();
-        EVP_DigestInit_ex(context, EVP_shake256(), NULL);
-    }
+    EVP_MD_CTX *context = EVP_MD_CTX_new();
+    EVP_DigestInit_ex(context, EVP_shake256(), NULL);
     return context;
 }
 
-/* Whole blocks of SHAKE256: OpenSSL's permutation cannot be called by itself. */
-static void permutation(size_t runs) { EVP_DigestUpdate(digest_context(), work.text, BLOCK * runs); }
+/* Whole blocks of SHAKE256, in a context that takes nothing else: OpenSSL's permutation cannot be called by itself. */
+static void permutation(size_t runs)
+{
+    static EVP_MD_CTX *context;
+    if (context == NULL)
+        context = new_digest();
+    EVP_DigestUpdate(context, work.text, BLOCK * runs);
+}
 
 static void shake256(size_t size)
 {
-    EVP_MD_CTX *context = digest_context();
+    static EVP_MD_CTX *context;
+    if (context == NULL)
+        context = new_digest();
     EVP_DigestInit_ex(context, EVP_shake256(), NULL);
     EVP_DigestUpdate(context, work.text, size);
     EVP_DigestFinalXOF(context, work.out, OUT);
@@ -90,4 +95,4 @@ static void opening(size_t size)
         combined(work.sealed, size);
 }
 
-const struct worker openssl = {"OpenSSL", {permutation, shake256, NULL, kmac256, kmacxof256, session, sealing, opening, NULL, NULL, NULL}};
+const struct worker openssl = {"OpenSSL", {permutation, shake256, NULL, kmac256, kmacxof256, session, sealing, opening}, 1u << PERMUTATION, NULL};

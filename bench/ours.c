@@ -66,4 +66,5 @@ static void hall_lookup(size_t destination_bytes)
 
 const struct worker ours = {"ours",
                             {permutation, shake256, cshake256, kmac256, kmacxof256, session, sealing, opening, drawing, plan_read, plan_lookup, hall_read,
-                             hall_lookup}};
+                             hall_lookup},
+                            0, hf_version};

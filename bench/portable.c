@@ -187,4 +187,5 @@ static void drawing(size_t size)
 
 const struct worker portable = {"portable C",
                                 {permutation, shake256, cshake256, kmac256, kmacxof256, session, sealing, opening, drawing, portable_plan_read,
-                                 portable_plan_lookup, portable_hall_read, portable_hall_lookup}};
+                                 portable_plan_lookup, portable_hall_read, portable_hall_lookup},
+                                0, NULL};

@@ -1,5 +1,6 @@
-/* Measures every worker on every kind of work.
-   speed time    a line for each kind and size: nanoseconds of each worker, the least of many turns that alternate between them
+/* Measures every worker on every row of a program's lists.
+   speed time    a line for each row and size: nanoseconds of each worker in many turns that alternate between them, what one turn in twenty does not
+                 exceed and the median
    speed count   the same work once each, for callgrind: its counts are dumped under the names of the lines
    Fails where two workers give different answers. */
 #include <stdio.h>
@@ -8,37 +9,22 @@
 #include <time.h>
 #include <valgrind/callgrind.h>
 
+#include "../include/hailfeather.h"
 #include "work.h"
 
 struct work work;
-static const struct worker *const workers[] = {&ours, &openssl, &portable};
-enum { WORKERS = 3, TURNS = 40 };
 
-static const struct {
-    const char *name;
-    enum kind kind;
-    size_t sizes[5];
-} rows[] = {
-    {"Keccak-p[1600, 24], runs", PERMUTATION, {64}},
-    {"SHAKE256", SHAKE256, {64, 4096, MOST}},
-    {"cSHAKE256", CSHAKE256, {64, 4096, MOST}},
-    {"KMAC256", KMAC256, {64, 4096, MOST}},
-    {"KMACXOF256", KMACXOF256, {64, 4096, MOST}},
-    {"session of 1 MiB, pieces of", SESSION, {64, 136, 1000, 4096, 65536}},
-    {"seal", SEALING, {64, 4096, MOST}},
-    {"open", OPENING, {64, 4096, MOST}},
-    {"draw", DRAWING, {64, 4096, MOST}},
-    {"plan read, 4,096 rows of", PLAN_READ, {1, 2, 3}},
-    {"plan lookup, 4,096 rows of", PLAN_LOOKUP, {1, 2, 3}},
-    {"hall read, 4,096 chutes of", HALL_READ, {1, 2, 3}},
-    {"hall lookup, 4,096 chutes of", HALL_LOOKUP, {1, 2, 3}},
-};
-enum { ROWS = sizeof rows / sizeof *rows };
+/* The machine's pace changes, for microseconds and for seconds. Turns are short, so that each worker has some that fall whole into one pace; and a row is not
+   measured at one go but in many visits, so that a slow second takes a part of every row and not all of one. The least of so many turns
+   differs too much from run to run to be of use; docs/PERFORMANCE.md has by how much. */
+static const double TURN = 1e5, VISIT = 2.5e7; /* nanoseconds; work that is longer than a turn makes longer visits, for the least number of turns */
+enum { LEAST_TURNS = 6, MOST_TURNS = 150, MEASURED = 64 };
 
+/* Of the processor's time for this program: what other programs take between is not counted. */
 static double seconds(void)
 {
     struct timespec t;
-    clock_gettime(CLOCK_MONOTONIC, &t);
+    clock_gettime(CLOCK_THREAD_CPUTIME_ID, &t);
     return (double)t.tv_sec + 1e-9 * (double)t.tv_nsec;
 }
 
@@ -50,68 +36,66 @@ static double nanoseconds(task *run, size_t size, long times)
     return 1e9 * (seconds() - from) / (double)times;
 }
 
-/* How often to run in a turn, so that a turn lasts some milliseconds. */
+static int ascending(const void *a, const void *b)
+{
+    double left = *(const double *)a, right = *(const double *)b;
+    return (left > right) - (left < right);
+}
+
+/* The times of a row's turns. */
+static struct timed {
+    int turns;
+    double ns[WORKERS][VISITS * MOST_TURNS]; /* in ascending order once they are printed */
+} timed[MEASURED];
+
+/* How often to run in a turn, by the longest of three runs: one that seemed too short would make a turn without end. A first, which may set things up, does
+   not count. */
 static long times_of(task *run, size_t size)
 {
-    double once = nanoseconds(run, size, 1);
-    return once > 5e6 ? 1 : 1 + (long)(5e6 / once);
-}
-
-/* Runs all of them once from the same beginning; fails unless what they write is the same. OpenSSL's permutation has no state to compare. */
-static void compare(int row, size_t size)
-{
-    static struct work before, first;
-    before = work;
-    for (int w = 0; w < WORKERS; w++) {
-        task *run = workers[w]->tasks[rows[row].kind];
-        if (run == NULL || (rows[row].kind == PERMUTATION && workers[w] == &openssl))
-            continue;
-        work = before;
-        run(size);
-        if (w == 0)
-            first = work;
-        else if (memcmp(&first, &work, sizeof work) != 0) {
-            fprintf(stderr, "%s, %zu: %s answers otherwise\n", rows[row].name, size, workers[w]->name);
-            exit(1);
-        }
+    double once = 1;
+    run(size);
+    for (int i = 0; i < 3; i++) {
+        double ns = nanoseconds(run, size, 1);
+        once = ns > once ? ns : once;
     }
+    return once > TURN ? 1 : (long)(TURN / once);
 }
 
-/* What takes turns in a row: the workers, and after them, for work that is made of KMACXOF256, one call of it over as many bytes. */
-enum { ONE_CALL = WORKERS };
-
-static task *turn_of(int row, int who)
+static void time_row(const struct row *row, size_t size, struct timed *into)
 {
-    enum kind kind = rows[row].kind;
-    if (who < ONE_CALL)
-        return workers[who]->tasks[kind];
-    return kind == SESSION || kind == SEALING || kind == OPENING ? ours.tasks[KMACXOF256] : NULL;
-}
-
-static void time_row(int row, size_t size)
-{
-    double least[WORKERS + 1] = {0};
-    for (int turn = 0; turn < TURNS; turn++)
-        for (int who = 0; who <= ONE_CALL; who++) {
-            task *run = turn_of(row, who);
-            size_t bytes = who == ONE_CALL && rows[row].kind == SESSION ? MOST : size;
-            double ns = run == NULL ? 0 : nanoseconds(run, bytes, times_of(run, bytes));
-            least[who] = turn == 0 || ns < least[who] ? ns : least[who];
+    task *runs[WORKERS] = {NULL};
+    long times[WORKERS];
+    int count = 0;
+    for (; workers[count] != NULL; count++)
+        if ((runs[count] = workers[count]->tasks[row->kind]) != NULL)
+            times[count] = times_of(runs[count], size);
+    double end = seconds() + 1e-9 * VISIT;
+    for (int turn = 0; turn < LEAST_TURNS || (turn < MOST_TURNS && seconds() < end); turn++, into->turns++)
+        for (int i = 0; i < count; i++) {
+            int w = turn % 2 == 0 ? i : count - 1 - i; /* in both orders, so that no one is always first */
+            into->ns[w][into->turns] = runs[w] == NULL ? 0 : nanoseconds(runs[w], size, times[w]);
         }
-    printf("%s;%zu", rows[row].name, size);
-    for (int who = 0; who <= ONE_CALL; who++)
-        printf(";%.1f", least[who]);
+}
+
+static void print_row(const struct row *row, size_t size, struct timed *from)
+{
+    printf("%s;%zu", row->name, size);
+    for (int w = 0; workers[w] != NULL; w++) {
+        qsort(from->ns[w], (size_t)from->turns, sizeof(double), ascending);
+        printf(";%.1f %.1f", from->ns[w][from->turns / 20], from->ns[w][from->turns / 2]);
+    }
     printf("\n");
 }
 
-static void count_row(int row, size_t size)
+static void count_row(const struct row *row, size_t size, struct timed *unused)
 {
-    for (int w = 0; w < WORKERS; w++) {
-        task *run = workers[w]->tasks[rows[row].kind];
+    (void)unused;
+    for (int w = 0; workers[w] != NULL; w++) {
+        task *run = workers[w]->tasks[row->kind];
         if (run == NULL)
             continue;
         char title[128];
-        snprintf(title, sizeof title, "%s;%zu;%d", rows[row].name, size, w);
+        snprintf(title, sizeof title, "%s;%zu;%d", row->name, size, w);
         run(size); /* what is set up on the first call is not counted */
         CALLGRIND_ZERO_STATS;
         run(size);
@@ -119,11 +103,32 @@ static void count_row(int row, size_t size)
     }
 }
 
+/* Runs all that do the row's work once from the same beginning; fails unless what they write is the same. */
+static void compare(const struct row *row, size_t size, struct timed *unused)
+{
+    (void)unused;
+    static struct work before, first;
+    before = work;
+    for (int w = 0; workers[w] != NULL; w++) {
+        task *run = workers[w]->tasks[row->kind];
+        if (run == NULL || (workers[w]->aside >> row->kind & 1) != 0)
+            continue;
+        work = before;
+        run(size);
+        if (w == 0)
+            first = work;
+        else if (memcmp(&first, &work, sizeof work) != 0) {
+            fprintf(stderr, "%s, %zu: %s answers otherwise\n", row->name, size, workers[w]->name);
+            exit(1);
+        }
+    }
+}
+
 /* The text that OPENING opens is what SEALING seals. */
 static void prepare(enum kind kind, size_t size)
 {
     if (kind == OPENING) {
-        ours.tasks[SEALING](size);
+        workers[0]->tasks[SEALING](size);
         memcpy(work.sealed, work.out, size);
         memcpy(work.seal_tag, work.tag, TAG);
     }
@@ -133,23 +138,45 @@ static void prepare(enum kind kind, size_t size)
         make_halls(size);
 }
 
-int main(int argc, char **argv)
+static void fill(void)
 {
-    void (*measure)(int, size_t) = argc == 2 && !strcmp(argv[1], "time") ? time_row : argc == 2 && !strcmp(argv[1], "count") ? count_row : NULL;
-    if (measure == NULL) {
-        fprintf(stderr, "usage: speed time|count\n");
-        return 2;
-    }
     for (size_t i = 0; i < MOST; i++)
         work.text[i] = (uint8_t)(7 * i + 3);
     for (size_t i = 0; i < KEY; i++)
         work.key[i] = work.drawing_key[i] = (uint8_t)(0x40 + i);
     memcpy(work.name, "bench 01", NAME), memcpy(work.custom, "plan key", CUSTOM);
-    for (int row = 0; row < ROWS; row++)
-        for (int i = 0; i < 5 && rows[row].sizes[i] > 0; i++) {
-            prepare(rows[row].kind, rows[row].sizes[i]);
-            compare(row, rows[row].sizes[i]);
-            measure(row, rows[row].sizes[i]);
+    for (int w = 0; workers[w] != NULL; w++)
+        if (workers[w]->version != NULL && workers[w]->version() != HF_VERSION) {
+            fprintf(stderr, "an archive is of version %u, and include/hailfeather.h of %u\n", workers[w]->version(), HF_VERSION);
+            exit(1);
         }
+}
+
+/* Does a part of the measuring for every row and size. */
+static void each(void (*part)(const struct row *, size_t, struct timed *))
+{
+    struct timed *of = timed;
+    for (const struct row *row = rows; row->name != NULL; row++)
+        for (int i = 0; i < SIZES && row->sizes[i] > 0; i++) {
+            prepare(row->kind, row->sizes[i]);
+            part(row, row->sizes[i], of++);
+        }
+}
+
+int main(int argc, char **argv)
+{
+    int timing = argc == 2 && !strcmp(argv[1], "time");
+    if (!timing && (argc != 2 || strcmp(argv[1], "count") != 0)) {
+        fprintf(stderr, "usage: speed time|count\n");
+        return 2;
+    }
+    fill();
+    each(compare);
+    if (!timing)
+        each(count_row);
+    for (int visit = 0; timing && visit < visits; visit++)
+        each(time_row);
+    if (timing)
+        each(print_row);
     return 0;
 }

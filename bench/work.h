@@ -26,8 +26,21 @@ typedef void task(size_t size);
 struct worker {
     const char *name;
     task *tasks[KINDS];
+    unsigned aside;            /* a bit for each kind where it does other work than the rest, so that its answers are not compared */
+    uint32_t (*version)(void); /* of a library that has one: it has to be the header's */
 };
 extern const struct worker ours, openssl, portable;
+
+/* What a program measures, by whom, and how often it comes back to each row. Rows go up to one without a name, workers up to NULL. */
+enum { SIZES = 5, WORKERS = 4, VISITS = 100 }; /* at most */
+struct row {
+    const char *name;
+    enum kind kind;
+    size_t sizes[SIZES];
+};
+extern const struct row rows[];
+extern const struct worker *const workers[];
+extern const int visits;
 
 task portable_plan_read, portable_plan_lookup, portable_hall_read, portable_hall_lookup;
 
