@@ -78,7 +78,7 @@ fn third_at(bytes: &[u8], at: usize, padded: bool, first: u32, second: u32) -> N
     if group < 128 {
         if may_end(padded, group) {
             return Number::Value {
-                value: first % 128 + 128 * (second % 128) + 16384 * group,
+                value: first % 128 + 128 * (second % 128 + 128 * group),
                 next: at + 1,
             };
         }

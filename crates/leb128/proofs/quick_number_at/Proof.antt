@@ -13,30 +13,21 @@ use Rattle.leb128.specs.declared.Number.{Number}
 use Rattle.leb128.proofs.Reading.{read-value, read-bad, group-end, group-last, group-empty, group-over, group-more}
 use Rattle.leb128.proofs.quick_number_at.Statement.{statement}
 use Rattle.leb128.proofs.quick_number_at.Tie as tie
-use Rattle.leb128.proofs.quick_number_at.Reads as reads
-use Rattle.leb128.proofs.quick_number_at.Lts as lts
-use Rattle.leb128.proofs.second_at.Reads as second-at-reads
-use Rattle.leb128.proofs.wide.Reads as wide-reads
 
--- src/lib.rt:117:9
 returns : tie.Need-returns
 returns c =
     let a = c .before .before .args in
     read-bad _ _ (group-end (a .padded) true 2 (a .at) 0 (now (a .bytes)) (c .if1 .taken))
 
--- src/lib.rt:119:22
 shared-slice-read-wide : tie.Need-shared-slice-read-wide
 shared-slice-read-wide c = search needs
 
--- src/lib.rt:119:9
 wide-requires : tie.Need-wide-requires
 wide-requires c κs = search needs
 
--- src/lib.rt:123:19
 add-t9 : tie.Need-add-t9
 add-t9 c = search needs
 
--- src/lib.rt:121:9
 returns-2 : tie.Need-returns-2
 returns-2 c =
     let w = c .before in
@@ -45,15 +36,12 @@ returns-2 c =
     (group-last (a .padded) true 2 (a .at) (w .wide .result) (now (a .bytes)) (w .before .before .if1 .left) (w .wide .ensures)
     (c .if2 .taken) refl)
 
--- src/lib.rt:126:22
 add-second-at : tie.Need-add-second-at
 add-second-at c = search needs
 
--- src/lib.rt:126:5
 second-at-requires : tie.Need-second-at-requires
 second-at-requires c κs = search needs
 
--- src/lib.rt:113:1
 returns-3 : tie.Need-returns-3
 returns-3 c =
     let w = c .before .before in

@@ -13,63 +13,46 @@ use Rattle.leb128.specs.declared.Number.{Number}
 use Rattle.leb128.proofs.Reading.{read-value, read-bad, group-end, group-last, group-empty, group-over, group-more}
 use Rattle.leb128.proofs.third_at.Statement.{statement}
 use Rattle.leb128.proofs.third_at.Tie as tie
-use Rattle.leb128.proofs.third_at.Reads as reads
-use Rattle.leb128.proofs.third_at.Lts as lts
-use Rattle.leb128.proofs.may_end.Reads as may-end-reads
-use Rattle.leb128.proofs.wide.Reads as wide-reads
 
--- src/lib.rt:77:9
 returns : tie.Need-returns
 returns c =
     let a = c .before .before .args in
     read-bad _ _ (ap (λ (q : Parsed). nextGroup (a .first % 128) (nextGroup (a .second % 128) q)) (group-end (a .padded) (a .padded) 0 (a .at) 0 (now (a .bytes)) (c .if1 .taken)))
 
--- src/lib.rt:79:22
 shared-slice-read-wide : tie.Need-shared-slice-read-wide
 shared-slice-read-wide c = search needs
 
--- src/lib.rt:79:9
 wide-requires : tie.Need-wide-requires
 wide-requires c κs = search needs
 
--- src/lib.rt:81:12
 may-end-requires : tie.Need-may-end-requires
 may-end-requires c κs = search needs
 
--- src/lib.rt:83:38
 mul-t14 : tie.Need-mul-t14
 mul-t14 c = search needs
 
--- src/lib.rt:83:24
 add-t15 : tie.Need-add-t15
 add-t15 c = search needs
 
--- src/lib.rt:83:61
 mul-t16 : tie.Need-mul-t16
 mul-t16 c = search needs
 
--- src/lib.rt:83:24
 add-t17 : tie.Need-add-t17
 add-t17 c = search needs
 
--- src/lib.rt:84:23
 add-t18 : tie.Need-add-t18
 add-t18 c = search needs
 
--- src/lib.rt:82:13
 returns-2 : tie.Need-returns-2
 returns-2 c =
     let w = c .before .before .before in
     let a = w .before .before .before .before .args in
     let g = w .wide .result in
     let ok = sym (c .before .may-end .ensures) ∙ c .if3 .taken in
-    let k : a .first % 128 + 128 * (a .second % 128) + 16384 * g ≡ a .first % 128 + 128 * (a .second % 128 + 128 * g) = omega arith in
     read-value _ _ _ _
-    (ap (λ (v : ℕ). value v (a .at + 1) (drop (a .at + 1) (now (a .bytes)))) k
-    ∙ ap (λ (q : Parsed). nextGroup (a .first % 128) (nextGroup (a .second % 128) q)) (group-last (a .padded) (a .padded) 0 (a .at) g (now (a .bytes)) (w .before .before .if1 .left) (w .wide .ensures)
+    (ap (λ (q : Parsed). nextGroup (a .first % 128) (nextGroup (a .second % 128) q)) (group-last (a .padded) (a .padded) 0 (a .at) g (now (a .bytes)) (w .before .before .if1 .left) (w .wide .ensures)
     (c .before .before .if2 .taken) ok))
 
--- src/lib.rt:87:9
 returns-3 : tie.Need-returns-3
 returns-3 c =
     let w = c .before .before .before in
@@ -79,7 +62,6 @@ returns-3 c =
     (ap (λ (q : Parsed). nextGroup (a .first % 128) (nextGroup (a .second % 128) q)) (group-empty (a .padded) (a .padded) 0 (a .at) (w .wide .result) (now (a .bytes)) (w .before .before .if1 .left) (w .wide .ensures)
     (c .before .before .if2 .taken) over))
 
--- src/lib.rt:71:1
 returns-4 : tie.Need-returns-4
 returns-4 c =
     let w = c .before in
