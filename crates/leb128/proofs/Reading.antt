@@ -108,6 +108,7 @@ module _ (padded empty : Bool) (more at group : ℕ) (s : List ℕ) where
     pub group-over : 128 ≤ group → more ≡ 0 → bad at ≡ groups padded empty more at (drop at s)
     group-over l z = sym (sym (above-none _) ∙ turn-over padded empty 0 1 more at group s h e l z)
 
-    pub group-more : 128 ≤ group → nextGroup (group % 128) (groups padded padded more (at + 1) (drop (at + 1) s)) ≡ groups padded empty (suc more) at (drop at s)
+    pub group-more : 128 ≤ group
+        → nextGroup (group % 128) (groups padded padded more (at + 1) (drop (at + 1) s)) ≡ groups padded empty (suc more) at (drop at s)
     unfolding groups
     group-more l = rw (here at s h, ← e, le-ltb _ _ l)

@@ -17,7 +17,8 @@ use Rattle.leb128.proofs.third_at.Tie as tie
 returns : tie.Need-returns
 returns c =
     let a = c .before .before .args in
-    read-bad _ _ (ap (λ (q : Parsed). nextGroup (a .first % 128) (nextGroup (a .second % 128) q)) (group-end (a .padded) (a .padded) 0 (a .at) 0 (now (a .bytes)) (c .if1 .taken)))
+    read-bad _ _ (ap (λ (q : Parsed). nextGroup (a .first % 128) (nextGroup (a .second % 128) q))
+    (group-end (a .padded) (a .padded) 0 (a .at) 0 (now (a .bytes)) (c .if1 .taken)))
 
 shared-slice-read-wide : tie.Need-shared-slice-read-wide
 shared-slice-read-wide c = search needs
@@ -50,7 +51,8 @@ returns-2 c =
     let g = w .wide .result in
     let ok = sym (c .before .may-end .ensures) ∙ c .if3 .taken in
     read-value _ _ _ _
-    (ap (λ (q : Parsed). nextGroup (a .first % 128) (nextGroup (a .second % 128) q)) (group-last (a .padded) (a .padded) 0 (a .at) g (now (a .bytes)) (w .before .before .if1 .left) (w .wide .ensures)
+    (ap (λ (q : Parsed). nextGroup (a .first % 128) (nextGroup (a .second % 128) q))
+    (group-last (a .padded) (a .padded) 0 (a .at) g (now (a .bytes)) (w .before .before .if1 .left) (w .wide .ensures)
     (c .before .before .if2 .taken) ok))
 
 returns-3 : tie.Need-returns-3
@@ -59,7 +61,8 @@ returns-3 c =
     let a = w .before .before .before .before .args in
     let over = sym (c .before .may-end .ensures) ∙ c .if3 .left in
     read-bad _ _
-    (ap (λ (q : Parsed). nextGroup (a .first % 128) (nextGroup (a .second % 128) q)) (group-empty (a .padded) (a .padded) 0 (a .at) (w .wide .result) (now (a .bytes)) (w .before .before .if1 .left) (w .wide .ensures)
+    (ap (λ (q : Parsed). nextGroup (a .first % 128) (nextGroup (a .second % 128) q))
+    (group-empty (a .padded) (a .padded) 0 (a .at) (w .wide .result) (now (a .bytes)) (w .before .before .if1 .left) (w .wide .ensures)
     (c .before .before .if2 .taken) over))
 
 returns-4 : tie.Need-returns-4
@@ -67,7 +70,8 @@ returns-4 c =
     let w = c .before in
     let a = w .before .before .before .before .args in
     read-bad _ _
-    (ap (λ (q : Parsed). nextGroup (a .first % 128) (nextGroup (a .second % 128) q)) (group-over (a .padded) (a .padded) 0 (a .at) (w .wide .result) (now (a .bytes)) (w .before .before .if1 .left) (w .wide .ensures)
+    (ap (λ (q : Parsed). nextGroup (a .first % 128) (nextGroup (a .second % 128) q))
+    (group-over (a .padded) (a .padded) 0 (a .at) (w .wide .result) (now (a .bytes)) (w .before .before .if1 .left) (w .wide .ensures)
     (c .if2 .left) refl))
 
 pub third-at-spec : {M : Type 1} → statement M

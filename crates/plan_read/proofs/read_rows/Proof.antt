@@ -17,7 +17,8 @@ use Rattle.plan_read.proofs.read_rows.Tie as tie
 
 abbrev Inv-loop : tie.InvT-loop
 Inv-loop plan first count chute found₀ at₀ i₀ found at i =
-    (i ≤ count) × (keeping chute i (rowValues found .found) (rowsFrom (count - i) at (drop at plan)) ≡ planAnswer chute (rowsFrom count first (drop first plan)))
+    (i ≤ count) × (keeping chute i (rowValues found .found) (rowsFrom (count - i) at (drop at plan))
+    ≡ planAnswer chute (rowsFrom count first (drop first plan)))
 
 abbrev μ-loop : tie.MeasureT-loop
 μ-loop plan first count chute found₀ at₀ i₀ found at i = count - i
@@ -115,7 +116,8 @@ returns-2 c =
     let l = past .before .loop in
     let a = start (past .before) .args in
     c .malformed2 .ensures
-    ∙ sym (keeping-over (a .chute) (l .i) (l .at) (a .count) (rowValues (l .found) .found) (now (a .plan)) (past .loop-test .left) (c .before .if2 .taken)) ∙ l .inv .1
+    ∙ sym (keeping-over (a .chute) (l .i) (l .at) (a .count) (rowValues (l .found) .found) (now (a .plan)) (past .loop-test .left) (c .before .if2 .taken))
+    ∙ l .inv .1
 
 row-of-requires : tie.Need-row-of-requires Inv-loop μ-loop
 row-of-requires c κs = search needs
@@ -128,7 +130,8 @@ returns-3 c =
     let e : a .count ≡ l .i = omega (arith, l .inv .0, past .loop-test .left) in
     ap (Rows (a .count)) (c .row-of .ensures)
     ∙ ap (λ (n : ℕ). Rows n (rowValues (l .found) .found)) e
-    ∙ sym (keeping-done (a .chute) (l .i) (l .at) (a .count) (rowValues (l .found) .found) (now (a .plan)) (past .loop-test .left) (c .before .if2 .left)) ∙ l .inv .1
+    ∙ sym (keeping-done (a .chute) (l .i) (l .at) (a .count) (rowValues (l .found) .found) (now (a .plan)) (past .loop-test .left) (c .before .if2 .left))
+    ∙ l .inv .1
 
 pub read-rows-spec : {M : Type 1} → statement M
 read-rows-spec =
