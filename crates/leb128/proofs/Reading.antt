@@ -90,3 +90,25 @@ module _ (unit more : ℕ) (h : unit * limit more ≤ maxNumber + 1) where
   pub unit-next : 1 ≤ more → unit * 128 * limit (more - 1) ≤ maxNumber + 1
   unfolding limit
   unit-next z = let k : more ≡ suc (more - 1) = omega arith in rw mul-assoc (rw k at h)
+
+-- one group of a number in straight-line code, by the byte at its place
+module _ (padded empty : Bool) (more at group : ℕ) (s : List ℕ) where
+  pub group-end : length s ≤ at → bad at ≡ groups padded empty more at (drop at s)
+  group-end h = sym (sym (above-none _) ∙ turn-end padded empty 0 1 more at group s h)
+
+  module _ (h : at < length s) (e : group ≡ getD s at 0) where
+    pub group-last : group < 128 → (empty || ltb 0 group) ≡ true → value group (at + 1) (drop (at + 1) s) ≡ groups padded empty more at (drop at s)
+    group-last l ok =
+        let k : 0 + 1 * group ≡ group = omega arith in
+        sym (sym (above-none _) ∙ turn-last padded empty 0 1 more at group s h e l ok ∙ ap (λ (v : ℕ). value v (at + 1) (drop (at + 1) s)) k)
+
+    pub group-empty : group < 128 → (empty || ltb 0 group) ≡ false → bad at ≡ groups padded empty more at (drop at s)
+    group-empty l over = sym (sym (above-none _) ∙ turn-empty padded empty 0 1 more at group s h e l over)
+
+    pub group-over : 128 ≤ group → more ≡ 0 → bad at ≡ groups padded empty more at (drop at s)
+    group-over l z = sym (sym (above-none _) ∙ turn-over padded empty 0 1 more at group s h e l z)
+
+    pub group-more : 128 ≤ group
+        → nextGroup (group % 128) (groups padded padded more (at + 1) (drop (at + 1) s)) ≡ groups padded empty (suc more) at (drop at s)
+    unfolding groups
+    group-more l = rw (here at s h, ← e, le-ltb _ _ l)

@@ -3,7 +3,8 @@ ghost use mathlib.Core.Path.{_≡_};
 ghost use mathlib.Core.Bool.{_||_};
 ghost use lib.Dec.{ltb};
 ghost use lib.ListN.{drop};
-ghost use Rattle.leb128.specs.Number.{number};
+ghost use Prim.Native.Nat.{_%_};
+ghost use Rattle.leb128.specs.Number.{number, nextGroup, groups};
 ghost use Rattle.leb128.specs.Answers.{ReadsNumber};
 
 // The largest number of three groups, as specs/Number.antt has it.
@@ -64,4 +65,61 @@ pub fn number_at(bytes: &[u8], at: usize, padded: bool) -> Number
         next += 1;
         empty = padded;
     }
+}
+
+// The number whose first two groups are given, by the group at a place.
+fn third_at(bytes: &[u8], at: usize, padded: bool, first: u32, second: u32) -> Number
+    ensures { λ r. ⌜ ReadsNumber (nextGroup (first % 128) (nextGroup (second % 128) (groups padded padded 0 at (drop at (now (bytes .entry)))))) r ⌝ }
+{
+    if bytes.len() <= at {
+        return Number::Bad(at);
+    }
+    let group = wide(bytes[at]);
+    if group < 128 {
+        if may_end(padded, group) {
+            return Number::Value {
+                value: first % 128 + 128 * (second % 128 + 128 * group),
+                next: at + 1,
+            };
+        }
+        return Number::Bad(at);
+    }
+    Number::Bad(at)
+}
+
+// The number whose first group is given, by the groups at a place.
+fn second_at(bytes: &[u8], at: usize, padded: bool, first: u32) -> Number
+    ensures { λ r. ⌜ ReadsNumber (nextGroup (first % 128) (groups padded padded 1 at (drop at (now (bytes .entry))))) r ⌝ }
+{
+    if bytes.len() <= at {
+        return Number::Bad(at);
+    }
+    let group = wide(bytes[at]);
+    if group < 128 {
+        if may_end(padded, group) {
+            return Number::Value {
+                value: first % 128 + 128 * group,
+                next: at + 1,
+            };
+        }
+        return Number::Bad(at);
+    }
+    third_at(bytes, at + 1, padded, first, group)
+}
+
+// The same as `number_at`, in straight-line code: quicker where one number follows another, and longer where it is put in place of its call.
+pub fn quick_number_at(bytes: &[u8], at: usize, padded: bool) -> Number
+    ensures { λ r. ⌜ ReadsNumber (number padded at (drop at (now (bytes .entry)))) r ⌝ }
+{
+    if bytes.len() <= at {
+        return Number::Bad(at);
+    }
+    let first = wide(bytes[at]);
+    if first < 128 {
+        return Number::Value {
+            value: first,
+            next: at + 1,
+        };
+    }
+    second_at(bytes, at + 1, padded, first)
 }

@@ -33,7 +33,7 @@ pub enum RowRead {
 pub fn row_at(plan: &[u8], at: usize) -> RowRead
     ensures { λ r. ⌜ ReadsRow at (planNumber at (drop at (now (plan .entry)))) r ⌝ }
 {
-    match leb128::number_at(plan, at, READS_PADDED) {
+    match leb128::quick_number_at(plan, at, READS_PADDED) {
         Number::Value { value, next } => RowRead::Found(Row {
             destination: value,
             start: at,
@@ -50,6 +50,20 @@ fn place_of(read: RowRead) -> usize
     match read {
         RowRead::Found(_) => 0,
         RowRead::NotRow(place) => place,
+    }
+}
+
+// The row that was read, all 0 where there is none.
+fn row_of(read: RowRead) -> Row
+    ensures { λ r. ⌜ r ≡ rowValues read .found ⌝ }
+{
+    match read {
+        RowRead::Found(row) => row,
+        RowRead::NotRow(_) => Row {
+            destination: 0,
+            start: 0,
+            end: 0,
+        },
     }
 }
 
@@ -79,11 +93,7 @@ fn wide(x: u32) -> u64
 fn read_rows(plan: &[u8], first: usize, count: u32, chute: u64) -> PlanRead
     ensures { λ r. ⌜ r ≡ planAnswer chute (rowsFrom count first (drop first (now (plan .entry)))) ⌝ }
 {
-    let mut found = Row {
-        destination: 0,
-        start: 0,
-        end: 0,
-    };
+    let mut found = RowRead::NotRow(0); // an enum, for whose sake the compiler branches, which is quicker than moving a row's three values each turn
     let mut at = first;
     let mut i: u32 = 0;
     while i < count {
@@ -94,13 +104,16 @@ fn read_rows(plan: &[u8], first: usize, count: u32, chute: u64) -> PlanRead
         i += 1;
         at = row.end;
         if wide(i) == chute {
-            found = row;
+            found = read;
         }
     }
     if at < plan.len() {
         return malformed(at);
     }
-    PlanRead::Rows { count, row: found }
+    PlanRead::Rows {
+        count,
+        row: row_of(found),
+    }
 }
 
 // Reads a plan whole, in one pass, and keeps the row of one chute.

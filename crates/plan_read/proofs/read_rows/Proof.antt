@@ -17,7 +17,8 @@ use Rattle.plan_read.proofs.read_rows.Tie as tie
 
 abbrev Inv-loop : tie.InvT-loop
 Inv-loop plan first count chute found₀ at₀ i₀ found at i =
-    (i ≤ count) × (keeping chute i found (rowsFrom (count - i) at (drop at plan)) ≡ planAnswer chute (rowsFrom count first (drop first plan)))
+    (i ≤ count) × (keeping chute i (rowValues found .found) (rowsFrom (count - i) at (drop at plan))
+    ≡ planAnswer chute (rowsFrom count first (drop first plan)))
 
 abbrev μ-loop : tie.MeasureT-loop
 μ-loop plan first count chute found₀ at₀ i₀ found at i = count - i
@@ -62,7 +63,7 @@ returns c =
     let a = start (turn r) .args in
     let other = m .enum-told .given in
     c .malformed .ensures ∙ ap (Refused malformedPlan) (c .before .place-of .ensures ∙ ap (λ (q : RowRead). rowValues q .place) (other .1))
-    ∙ sym (keeping-bad (a .chute) (l .i) (l .at) (a .count) (l .found) (now (a .plan)) (other .0 .0) (r .before .loop-test .taken)
+    ∙ sym (keeping-bad (a .chute) (l .i) (l .at) (a .count) (rowValues (l .found) .found) (now (a .plan)) (other .0 .0) (r .before .loop-test .taken)
     (sym (r .row-at .ensures .answer) ∙ other .1))
     ∙ l .inv .1
 
@@ -83,7 +84,7 @@ loop-again c =
     let a = start (turn r) .args in
     let got = w .before .before .read .given in (
       omega (arith, r .before .loop-test .taken),
-      sym (keeping-new (a .chute) (l .i) (l .at) (a .count) (l .found) (now (a .plan)) (got .0 .0) (r .before .loop-test .taken)
+      sym (keeping-new (a .chute) (l .i) (l .at) (a .count) (rowValues (l .found) .found) (now (a .plan)) (got .0 .0) (r .before .loop-test .taken)
           (sym (r .row-at .ensures .answer) ∙ got .1)
           (sym (w .wide .ensures) ∙ c .if1 .taken))
           ∙ l .inv .1,
@@ -100,7 +101,7 @@ loop-again-2 c =
     let a = start (turn r) .args in
     let got = w .before .before .read .given in (
       omega (arith, r .before .loop-test .taken),
-      sym (keeping-old (a .chute) (l .i) (l .at) (a .count) (l .found) (now (a .plan)) (got .0 .0) (r .before .loop-test .taken)
+      sym (keeping-old (a .chute) (l .i) (l .at) (a .count) (rowValues (l .found) .found) (now (a .plan)) (got .0 .0) (r .before .loop-test .taken)
           (sym (r .row-at .ensures .answer) ∙ got .1)
           (λ e. c .if1 .left (w .wide .ensures ∙ e)))
           ∙ l .inv .1,
@@ -115,16 +116,22 @@ returns-2 c =
     let l = past .before .loop in
     let a = start (past .before) .args in
     c .malformed2 .ensures
-    ∙ sym (keeping-over (a .chute) (l .i) (l .at) (a .count) (l .found) (now (a .plan)) (past .loop-test .left) (c .before .if2 .taken)) ∙ l .inv .1
+    ∙ sym (keeping-over (a .chute) (l .i) (l .at) (a .count) (rowValues (l .found) .found) (now (a .plan)) (past .loop-test .left) (c .before .if2 .taken))
+    ∙ l .inv .1
+
+row-of-requires : tie.Need-row-of-requires Inv-loop μ-loop
+row-of-requires c κs = search needs
 
 returns-3 : tie.Need-returns-3 Inv-loop μ-loop
 returns-3 c =
-    let past = c .before in
+    let past = c .before .before in
     let l = past .before .loop in
     let a = start (past .before) .args in
     let e : a .count ≡ l .i = omega (arith, l .inv .0, past .loop-test .left) in
-    ap (λ (n : ℕ). Rows n (l .found)) e
-    ∙ sym (keeping-done (a .chute) (l .i) (l .at) (a .count) (l .found) (now (a .plan)) (past .loop-test .left) (c .if2 .left)) ∙ l .inv .1
+    ap (Rows (a .count)) (c .row-of .ensures)
+    ∙ ap (λ (n : ℕ). Rows n (rowValues (l .found) .found)) e
+    ∙ sym (keeping-done (a .chute) (l .i) (l .at) (a .count) (rowValues (l .found) .found) (now (a .plan)) (past .loop-test .left) (c .before .if2 .left))
+    ∙ l .inv .1
 
 pub read-rows-spec : {M : Type 1} → statement M
 read-rows-spec =
@@ -147,4 +154,5 @@ read-rows-spec =
     loop-again-2
     malformed-requires-2
     returns-2
+    row-of-requires
     returns-3)
