@@ -57,7 +57,23 @@ pub fn head_at(plan: &[u8], levels: u32, chutes: u32, at: usize) -> EntryRead
             if kind_allowed(levels, chutes, value) {
                 return entry_of_kind(plan, (value % 256) as u8, next);
             }
-            EntryRead::NotEntry(at)
+            EntryRead::NotEntry(at) // the kind may not stand here
+        }
+        Number::Bad(place) => EntryRead::NotEntry(place),
+    }
+}
+
+// The entry that starts at a place where either kind may stand. It has a body of its own, so that each of the two has one caller and is put in its place.
+pub fn entry_at(plan: &[u8], at: usize) -> EntryRead
+    ensures { λ r. ⌜ ReadsEntry (byteHead 1 0 at (drop at (now (plan .entry)))) r ⌝ }
+{
+    match leb128::number_at(plan, at, plan_read::READS_PADDED) {
+        Number::Value { value, next } => {
+            if kind_allowed(1, 0, value) {
+                let kind = (value % 256) as u8;
+                return entry_of_kind(plan, kind, next);
+            }
+            EntryRead::NotEntry(at) // there is no such kind
         }
         Number::Bad(place) => EntryRead::NotEntry(place),
     }

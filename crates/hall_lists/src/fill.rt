@@ -11,7 +11,7 @@ pub fn fill_lists(plan: &[u8], start: usize, kinds: &mut [u8], values: &mut [u32
     let mut at = start;
     let mut i: usize = 0;
     while i < count {
-        let head = hall_entry::head_at(plan, 1, 0, at);
+        let head = hall_entry::entry_at(plan, at);
         let EntryRead::Found { kind, value, next } = head else {
             return;
         };

@@ -32,47 +32,12 @@ fn may_end(empty: bool, group: u32) -> bool
     0 < group
 }
 
-// The number at a place: groups of seven bits, lowest first, top bit set when another follows, at most three. `padded` says whether a number in more
-// groups than it needs is read.
-pub fn number_at(bytes: &[u8], at: usize, padded: bool) -> Number
-    ensures { λ r. ⌜ ReadsNumber (number padded at (drop at (now (bytes .entry)))) r ⌝ }
-{
-    let mut low: u32 = 0;
-    let mut unit: u32 = 1;
-    let mut more: u32 = 2;
-    let mut next = at;
-    let mut empty = true;
-    loop {
-        if bytes.len() <= next {
-            return Number::Bad(next); // a byte is missing
-        }
-        let group = wide(bytes[next]);
-        if group < 128 {
-            if may_end(empty, group) {
-                return Number::Value {
-                    value: low + unit * group,
-                    next: next + 1,
-                };
-            }
-            return Number::Bad(next); // the group is more than the number needs
-        }
-        if more == 0 {
-            return Number::Bad(next); // a fourth group is promised
-        }
-        low += unit * (group % 128);
-        unit *= 128;
-        more -= 1;
-        next += 1;
-        empty = padded;
-    }
-}
-
 // The number whose first two groups are given, by the group at a place.
 fn third_at(bytes: &[u8], at: usize, padded: bool, first: u32, second: u32) -> Number
     ensures { λ r. ⌜ ReadsNumber (nextGroup (first % 128) (nextGroup (second % 128) (groups padded padded 0 at (drop at (now (bytes .entry)))))) r ⌝ }
 {
     if bytes.len() <= at {
-        return Number::Bad(at);
+        return Number::Bad(at); // the third byte is missing
     }
     let group = wide(bytes[at]);
     if group < 128 {
@@ -82,9 +47,9 @@ fn third_at(bytes: &[u8], at: usize, padded: bool, first: u32, second: u32) -> N
                 next: at + 1,
             };
         }
-        return Number::Bad(at);
+        return Number::Bad(at); // the third group is more than the number needs
     }
-    Number::Bad(at)
+    Number::Bad(at) // a fourth group is promised
 }
 
 // The number whose first group is given, by the groups at a place.
@@ -92,7 +57,7 @@ fn second_at(bytes: &[u8], at: usize, padded: bool, first: u32) -> Number
     ensures { λ r. ⌜ ReadsNumber (nextGroup (first % 128) (groups padded padded 1 at (drop at (now (bytes .entry))))) r ⌝ }
 {
     if bytes.len() <= at {
-        return Number::Bad(at);
+        return Number::Bad(at); // the second byte is missing
     }
     let group = wide(bytes[at]);
     if group < 128 {
@@ -102,17 +67,18 @@ fn second_at(bytes: &[u8], at: usize, padded: bool, first: u32) -> Number
                 next: at + 1,
             };
         }
-        return Number::Bad(at);
+        return Number::Bad(at); // the second group is more than the number needs
     }
     third_at(bytes, at + 1, padded, first, group)
 }
 
-// The same as `number_at`, in straight-line code: quicker where one number follows another, and longer where it is put in place of its call.
-pub fn quick_number_at(bytes: &[u8], at: usize, padded: bool) -> Number
+// The number at a place: groups of seven bits, lowest first, top bit set when another follows, at most three. `padded` says whether a number in more
+// groups than it needs is read. Straight-line code: most numbers end with their first group.
+pub fn number_at(bytes: &[u8], at: usize, padded: bool) -> Number
     ensures { λ r. ⌜ ReadsNumber (number padded at (drop at (now (bytes .entry)))) r ⌝ }
 {
     if bytes.len() <= at {
-        return Number::Bad(at);
+        return Number::Bad(at); // the first byte is missing
     }
     let first = wide(bytes[at]);
     if first < 128 {

@@ -33,7 +33,7 @@ pub enum RowRead {
 pub fn row_at(plan: &[u8], at: usize) -> RowRead
     ensures { λ r. ⌜ ReadsRow at (planNumber at (drop at (now (plan .entry)))) r ⌝ }
 {
-    match leb128::quick_number_at(plan, at, READS_PADDED) {
+    match leb128::number_at(plan, at, READS_PADDED) {
         Number::Value { value, next } => RowRead::Found(Row {
             destination: value,
             start: at,

@@ -6,11 +6,11 @@ use borrow.Author.Needs.{needs}
 use Rattle.plan_read.proofs.row_at.Statement.{statement}
 use Rattle.plan_read.proofs.row_at.Tie as tie
 
-abbrev start : tie.After-quick-number-at → tie.Start
+abbrev start : tie.After-number-at → tie.Start
 start n = n .before .before
 
-quick-number-at-requires : tie.Need-quick-number-at-requires
-quick-number-at-requires c κs = search needs
+number-at-requires : tie.Need-number-at-requires
+number-at-requires c κs = search needs
 
 enum-known-value : tie.Need-enum-known-value
 enum-known-value c = search needs
@@ -22,14 +22,14 @@ returns : tie.Need-returns
 returns c =
     let m = c .before in
     let n = m .before .before in
-    read-row (start n .args .at) _ _ _ (n .quick-number-at .ensures .answer) (ap (rowNumber (start n .args .at)) (m .value .given .1))
+    read-row (start n .args .at) _ _ _ (n .number-at .ensures .answer) (ap (rowNumber (start n .args .at)) (m .value .given .1))
 
 returns-2 : tie.Need-returns-2
 returns-2 c =
     let m = c .before in
     let n = m .before .before in
-    read-row (start n .args .at) _ _ _ (n .quick-number-at .ensures .answer) (ap (rowNumber (start n .args .at)) (m .place .given .1))
+    read-row (start n .args .at) _ _ _ (n .number-at .ensures .answer) (ap (rowNumber (start n .args .at)) (m .place .given .1))
 
 pub row-at-spec : {M : Type 1} → statement M
 row-at-spec =
-    tie.close (tie.spec quick-number-at-requires enum-known-value enum-known-place returns returns-2)
+    tie.close (tie.spec number-at-requires enum-known-value enum-known-place returns returns-2)

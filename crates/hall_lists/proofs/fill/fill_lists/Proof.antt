@@ -45,7 +45,7 @@ returns c =
     let s = now (h .before .before .before .before .before .before .args .plan) in
     let told = c .enum-told .given in
     filling-done (l .inv)
-    (sequence-stop s _ (l .i) (l .at) (told .0 .0) (h .before .loop-test .taken) (head-wrong _ (told .0 .0) (sym (h .head-at .ensures .answer) ∙ told .1)))
+    (sequence-stop s _ (l .i) (l .at) (told .0 .0) (h .before .loop-test .taken) (head-wrong _ (told .0 .0) (sym (h .entry-at .ensures .answer) ∙ told .1)))
 
 slice-write-kinds : tie.Need-slice-write-kinds Inv-loop μ-loop
 slice-write-kinds c =
@@ -66,7 +66,7 @@ loop-again c =
     let s = now (r .before .before .before .before .before .before .args .plan) in
     let g = c .before .head .given .0 in
     let h = head-known s 1 0 (l .at) (g .0) (g .1 .0) (g .1 .1 .0) (byteHead 1 0 (l .at) (drop (l .at) s)) (byte-heads s 1 0 (l .at) (l .inv .inside))
-    (sym (r .head-at .ensures .answer) ∙ c .before .head .given .1) in
+    (sym (r .entry-at .ensures .answer) ∙ c .before .head .given .1) in
     filling-more (l .inv) (g .0) (g .1 .0) (g .1 .1 .0) (r .before .loop-test .taken) (h .is) (h .inside)
 
 same-length-3 : tie.Need-same-length-3 Inv-loop μ-loop
