@@ -120,13 +120,10 @@ fn xor_some(lanes: &mut [u64; 25], p: usize, s: &[u8], at: usize, n: usize)
     xor_rest(lanes, p, s, at, n, 8 - p % 8);
 }
 
-fn least(m: usize, n: usize) -> usize
-    ensures { λ r. ⌜ r ≡ min m n ⌝ }
+fn shorter(a: usize, b: usize) -> usize
+    ensures { λ r. ⌜ r ≡ min a b ⌝ }
 {
-    if m < n {
-        return m;
-    }
-    n
+    if a < b { a } else { b }
 }
 
 // The byte `b` put in at byte `p` of the block, p taken modulo the block's length.
@@ -147,7 +144,7 @@ pub fn xor_in(lanes: &mut [u64; 25], p: usize, s: &[u8], at: usize) -> usize
     if s.len() <= at {
         return 0;
     }
-    let n = least(RATE - p, s.len() - at);
+    let n = shorter(RATE - p, s.len() - at);
     if n == RATE {
         xor_block(lanes, s, at);
         return RATE;
