@@ -11,7 +11,9 @@ use lib.Seq.{set-getD, getD-drop, take-add, drop-drop, length-take-le}
 use Rattle.fips202.specs.Bytes.{xorByte, xorBytes}
 use Rattle.fips202.specs.Laws.Xor.{xor-assoc, xor-scale}
 use Rattle.fips202.specs.Laws.Bytes.{upd-upd, xorBytes-append}
-use Rattle.encode.specs.Digits.{numberOf}
+use Rattle.encode.specs.Digits.{digits, numberOf}
+use Rattle.encode.specs.Laws.Digits.{numberOf-digits}
+use Rattle.encode.specs.Laws.Bytes.{getD-bytes, digits-bytes}
 
 -- ---- reading
 
@@ -89,6 +91,12 @@ xor-lane : (bs a : List ℕ) (i : ℕ) → length bs ≤ 8 → Bytes bs → xorB
 xor-lane bs a i h hb =
     let w : numberOf 256 bs * 1 ≡ numberOf 256 bs = omega arith in
     ap (λ (k : ℕ). xorBytes a k bs) (sym (add-zero (8 * i))) ∙ xor-lane-from bs a i 0 (omega arith) hb ∙ ap (λ (x : ℕ). set a i (bitXor (getD a i 0) x)) w
+
+-- a number's own eight
+pub number-put : (a : List ℕ) (i w : ℕ) → w < 2 ^ 64 → set a i (bitXor (getD a i 0) w) ≡ xorBytes a (8 * i) (digits 256 8 w)
+number-put a i w h =
+    ap (λ (x : ℕ). set a i (bitXor (getD a i 0) x)) (sym (numberOf-digits 256 (omega arith) 8 w h))
+    ∙ sym (xor-lane (digits 256 8 w) a i (omega arith) (λ k. getD-bytes (digits 256 8 w) k (digits-bytes 8 w)))
 
 -- the same at byte p, where a lane begins
 xor-lane-at : (bs a : List ℕ) (p : ℕ) → p % 8 ≡ 0 → length bs ≤ 8 → Bytes bs → set a (p / 8) (bitXor (getD a (p / 8) 0) (numberOf 256 bs)) ≡ xorBytes a p bs

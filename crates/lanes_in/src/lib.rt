@@ -1,9 +1,9 @@
 // Bytes put into the lanes of a block by exclusive or (FIPS 202, B.1): single bytes, lanes of eight, and whole blocks.
 ghost use mathlib.Core.Path.{_≡_};
-ghost use Prim.Native.Nat.{_+_, _-_, _%_, _<_, _≤_, min};
+ghost use Prim.Native.Nat.{_+_, _-_, _*_, _%_, _<_, _≤_, min};
 ghost use lib.ListN.{length, take, drop};
 ghost use Rattle.fips202.specs.Bytes.{xorByte, xorBytes};
-ghost use Rattle.encode.specs.Digits.{numberOf};
+ghost use Rattle.encode.specs.Digits.{digits, numberOf};
 ghost use Rattle.encode.specs.Padding.{rate};
 use encode::RATE;
 
@@ -131,6 +131,13 @@ pub fn xor_byte(lanes: &mut [u64; 25], p: usize, b: u8)
     ensures { λ r. ⌜ now (lanes .exit) ≡ xorByte (now (lanes .entry)) (p % rate) b ⌝ }
 {
     xor_at(lanes, p % RATE, b);
+}
+
+// The eight bytes whose number is `w`, the lowest first, put in at lane `i` of the block, i taken modulo its number of lanes.
+pub fn xor_number(lanes: &mut [u64; 25], i: usize, w: u64)
+    ensures { λ r. ⌜ now (lanes .exit) ≡ xorBytes (now (lanes .entry)) (8 * (i % 17)) (digits 256 8 w) ⌝ }
+{
+    lanes[i % 17] = lanes[i % 17] ^ w;
 }
 
 // As many bytes of `s` from `at` on as the block has room for from byte `p` on; how many they are.

@@ -3,8 +3,8 @@ ghost use mathlib.Core.Path.{_≡_};
 ghost use Rattle.calls.specs.Start.{named, keyed};
 ghost use Rattle.start.specs.Started.{refusedStart, Starts};
 use answers::DONE;
-use calls::KMAC;
 use prefix::absorb_key;
+use prefix::absorb_kmac;
 use prefix::absorb_name;
 
 mod prefix;
@@ -65,13 +65,14 @@ pub fn start_keyed(key: &[u8], customisation: &[u8]) -> Started
     if number != DONE {
         return refuse(number);
     }
-    let mut lanes = [0u64; 25];
-    let name_blocks = absorb_name(&mut lanes, &KMAC, customisation);
-    let key_blocks = absorb_key(&mut lanes, key);
-    Started {
+    let mut start = Started {
         number: DONE,
-        lanes,
+        lanes: [0u64; 25],
         suffix: 0x04,
-        blocks: name_blocks + key_blocks,
-    }
+        blocks: 0,
+    };
+    let name_blocks = absorb_kmac(&mut start.lanes, customisation);
+    let key_blocks = absorb_key(&mut start.lanes, key);
+    start.blocks = name_blocks + key_blocks;
+    start
 }

@@ -20,17 +20,17 @@ returns c =
     refused-starts (asked tested) (tested .keyed-refusal .result) (c .refuse .result) (tested .keyed-refusal .ensures)
     (c .before .if1 .taken) (c .refuse .ensures)
 
-absorb-name-requires : tie.Need-absorb-name-requires
-absorb-name-requires c κs = (omega arith, keyed-lengths _ _ (accepted (c .before .before)) .1)
+absorb-kmac-requires : tie.Need-absorb-kmac-requires
+absorb-kmac-requires c κs = keyed-lengths _ _ (accepted (c .before)) .1
 
 absorb-key-requires : tie.Need-absorb-key-requires
-absorb-key-requires c κs = keyed-lengths _ _ (accepted (c .before .before .before .before)) .0
+absorb-key-requires c κs = keyed-lengths _ _ (accepted (c .before .before .before)) .0
 
 returns-2 : tie.Need-returns-2
 returns-2 c =
     let named = c .before .before in
-    let name = named .absorb-name in
-    let passed = named .before .before .before in
+    let name = named .absorb-kmac in
+    let passed = named .before .before in
     keyed-starts _ _ (name .last .0) (c .absorb-key .last .0) (name .result) (c .absorb-key .result)
     (accepted passed) (name .ensures) (c .absorb-key .ensures)
     (omega (arith, name .ensures .bounded, c .absorb-key .ensures .bounded))
@@ -42,8 +42,7 @@ start-keyed-spec =
     (λ c κs. search needs)
     (λ c κs. search needs)
     returns
-    (λ c. search needs)
-    absorb-name-requires
+    absorb-kmac-requires
     absorb-key-requires
     (λ c. search needs)
     returns-2)
