@@ -78,6 +78,10 @@ absorbed-refreshed bs a p h k = elim (decLe rate (p + length bs)) [
   | no room ↦ absorbed-in bs a p (omega arith) ∙ sym (refreshed-in (xorBytes a p bs) (p + length bs) (omega arith))
 ]
 
+pub absorbByte-refreshed : (a : List ℕ) (p b : ℕ) → p < rate → refreshed (running (xorByte a p b) (p + 1)) ≡ absorbByte (running a p) b
+unfolding absorbed xorBytes
+absorbByte-refreshed a p b h = sym (absorbed-refreshed (b ∷ []) a p h (omega arith))
+
 -- a turn of a loop that absorbs l: as many bytes more as the block has room for
 pub absorbed-turn : (s : Running) (l a b : List ℕ) (i p n : ℕ) → running a p ≡ absorbed s (take i l) → p < rate → n ≡ min (rate - p) (length l - i)
     → b ≡ xorBytes a p (take n (drop i l)) → refreshed (running b (p + n)) ≡ absorbed s (take (i + n) l)
