@@ -1,9 +1,9 @@
 // Bytes put into the lanes of a block by exclusive or (FIPS 202, B.1): single bytes, lanes of eight, and whole blocks.
 ghost use mathlib.Core.Path.{_≡_};
-ghost use Prim.Native.Nat.{_+_, _-_, _%_, _<_, _≤_, min};
+ghost use Prim.Native.Nat.{_+_, _-_, _*_, _%_, _<_, _≤_, min};
 ghost use lib.ListN.{length, take, drop};
 ghost use Rattle.fips202.specs.Bytes.{xorByte, xorBytes};
-ghost use Rattle.encode.specs.Digits.{numberOf};
+ghost use Rattle.encode.specs.Digits.{digits, numberOf};
 ghost use Rattle.encode.specs.Padding.{rate};
 use encode::RATE;
 
@@ -64,23 +64,66 @@ fn xor_block(lanes: &mut [u64; 25], s: &[u8], at: usize)
     }
 }
 
-// The `n` bytes of `s` from `at` on put in from byte `p` on, where the block has room for them: whole lanes by lanes, single bytes only at ragged ends.
-fn xor_some(lanes: &mut [u64; 25], p: usize, s: &[u8], at: usize, n: usize)
+// Bytes of `s` from `at` on put in at byte `p`, as many as its lane has from there: the shift drops the others of the eight.
+fn xor_first(lanes: &mut [u64; 25], p: usize, s: &[u8], at: usize)
+    requires { ⌜ (p < rate) × (at + 8 ≤ length (now s)) ⌝ }
+    ensures { λ r. ⌜ now (lanes .exit) ≡ xorBytes (now (lanes .entry)) p (take (8 - p % 8) (drop at (now (s .entry)))) ⌝ }
+{
+    lanes[p / 8] = lanes[p / 8] ^ (load8(s, at) << (8 * (p % 8)));
+}
+
+// The `n` bytes of `s` before `end` put in at byte `p`, where a lane begins: the shift drops those before them of the last eight.
+fn xor_last(lanes: &mut [u64; 25], p: usize, s: &[u8], end: usize, n: usize)
+    requires { ⌜ (p % 8 ≡ 0) × (p < rate) × (0 < n) × (n ≤ 8) × (8 ≤ end) × (end ≤ length (now s)) ⌝ }
+    ensures { λ r. ⌜ now (lanes .exit) ≡ xorBytes (now (lanes .entry)) p (take n (drop (end - n) (now (s .entry)))) ⌝ }
+{
+    lanes[p / 8] = lanes[p / 8] ^ (load8(s, end - 8) >> (64 - 8 * n));
+}
+
+// Of the `n` bytes of `s` from `at` on, which belong at byte `p` and after it, those from the `from`th on, which begins a lane: lane by lane, and what is left.
+fn xor_rest(lanes: &mut [u64; 25], p: usize, s: &[u8], at: usize, n: usize, from: usize)
+    requires { ⌜ ((p + from) % 8 ≡ 0) × (from ≤ n) × (p + n ≤ rate) × (8 ≤ at + n) × (at + n ≤ length (now s)) ⌝ }
+    ensures { λ r. ⌜ now (lanes .exit) ≡ xorBytes (now (lanes .entry)) (p + from) (take (n - from) (drop (at + from) (now (s .entry)))) ⌝ }
+{
+    let mut i = from;
+    while i + 8 <= n {
+        xor_lane(lanes, p + i, s, at + i);
+        i += 8;
+    }
+    if i < n {
+        xor_last(lanes, p + i, s, at + n, n - i);
+    }
+}
+
+// The `n` bytes of `s` from `at` on put in from byte `p` on, one by one.
+fn xor_few(lanes: &mut [u64; 25], p: usize, s: &[u8], at: usize, n: usize)
     requires { ⌜ (p + n ≤ rate) × (at + n ≤ length (now s)) ⌝ }
     ensures { λ r. ⌜ now (lanes .exit) ≡ xorBytes (now (lanes .entry)) p (take n (drop at (now (s .entry)))) ⌝ }
 {
     let mut i = 0;
     while i < n {
-        if (p + i) % 8 == 0 {
-            if 8 <= n - i {
-                xor_lane(lanes, p + i, s, at + i);
-                i += 8;
-                continue;
-            }
-        }
         xor_at(lanes, p + i, s[at + i]);
         i += 1;
     }
+}
+
+// The `n` bytes of `s` from `at` on put in from byte `p` on, where the block has room for them: lane by lane, and one by one only if they are fewer than eight.
+fn xor_some(lanes: &mut [u64; 25], p: usize, s: &[u8], at: usize, n: usize)
+    requires { ⌜ (p + n ≤ rate) × (at + n ≤ length (now s)) ⌝ }
+    ensures { λ r. ⌜ now (lanes .exit) ≡ xorBytes (now (lanes .entry)) p (take n (drop at (now (s .entry)))) ⌝ }
+{
+    if n < 8 {
+        xor_few(lanes, p, s, at, n);
+        return;
+    }
+    xor_first(lanes, p, s, at);
+    xor_rest(lanes, p, s, at, n, 8 - p % 8);
+}
+
+fn shorter(a: usize, b: usize) -> usize
+    ensures { λ r. ⌜ r ≡ min a b ⌝ }
+{
+    if a < b { a } else { b }
 }
 
 // The byte `b` put in at byte `p` of the block, p taken modulo the block's length.
@@ -88,6 +131,13 @@ pub fn xor_byte(lanes: &mut [u64; 25], p: usize, b: u8)
     ensures { λ r. ⌜ now (lanes .exit) ≡ xorByte (now (lanes .entry)) (p % rate) b ⌝ }
 {
     xor_at(lanes, p % RATE, b);
+}
+
+// The eight bytes whose number is `w`, the lowest first, put in at lane `i` of the block, i taken modulo its number of lanes.
+pub fn xor_number(lanes: &mut [u64; 25], i: usize, w: u64)
+    ensures { λ r. ⌜ now (lanes .exit) ≡ xorBytes (now (lanes .entry)) (8 * (i % 17)) (digits 256 8 w) ⌝ }
+{
+    lanes[i % 17] = lanes[i % 17] ^ w;
 }
 
 // As many bytes of `s` from `at` on as the block has room for from byte `p` on; how many they are.
@@ -101,15 +151,11 @@ pub fn xor_in(lanes: &mut [u64; 25], p: usize, s: &[u8], at: usize) -> usize
     if s.len() <= at {
         return 0;
     }
-    let left = s.len() - at;
-    if left < RATE - p {
-        xor_some(lanes, p, s, at, left);
-        return left;
-    }
-    if p == 0 {
+    let n = shorter(RATE - p, s.len() - at);
+    if n == RATE {
         xor_block(lanes, s, at);
         return RATE;
     }
-    xor_some(lanes, p, s, at, RATE - p);
-    RATE - p
+    xor_some(lanes, p, s, at, n);
+    n
 }

@@ -34,11 +34,6 @@ bytes-lane a i =
     let w : getD a i 0 / 1 ≡ getD a i 0 = omega arith in
     ap (λ (k : ℕ). bytesAt a k 8) (sym (add-zero (8 * i))) ∙ bytes-lane-from 8 a i 0 (omega arith) ∙ ap (digits 256 8) w
 
-pub bytes-lane-at : (a : List ℕ) (p : ℕ) → p % 8 ≡ 0 → digits 256 8 (getD a (p / 8) 0) ≡ bytesAt a p 8
-bytes-lane-at a p z =
-    let e : 8 * (p / 8) ≡ p = omega arith in
-    sym (bytes-lane a (p / 8)) ∙ ap (λ (k : ℕ). bytesAt a k 8) e
-
 digits-append : (n m v : ℕ) → digits 256 (n + m) v ≡ digits 256 n v ++ digits 256 m (v / 2 ^ (8 * n))
 digits-append zero m v =
     let e : v / 1 ≡ v = omega arith in
@@ -70,11 +65,23 @@ more-put l a at p i m =
     ∙ sets-append (bytesAt a p i) (bytesAt a (p + i) m) l at
     ∙ ap (sets l at) (sym (bytesAt-append i m a p))
 
+-- the same, of two calls that follow each other, up to n bytes
+pub both-put : (l x y a : List ℕ) (at p i m n : ℕ) → i + m ≡ n → x ≡ sets l at (bytesAt a p i) → y ≡ sets x (at + i) (bytesAt a (p + i) m)
+    → y ≡ sets l at (bytesAt a p n)
+both-put l x y a at p i m n e hx hy =
+    hy ∙ ap (λ (z : List ℕ). sets z (at + i) (bytesAt a (p + i) m)) hx ∙ more-put l a at p i m ∙ ap (λ (k : ℕ). sets l at (bytesAt a p k)) e
+
 -- one byte of them
 pub byte-put : (l a : List ℕ) (at p : ℕ) → set l at (byteAt a p) ≡ sets l at (bytesAt a p 1)
 unfolding bytesAt
 byte-put l a at p = refl
 
--- lane i of them
-pub lane-put : (l a : List ℕ) (at i : ℕ) → sets l at (digits 256 8 (getD a i 0)) ≡ sets l at (bytesAt a (8 * i) 8)
-lane-put l a at i = ap (sets l at) (sym (bytes-lane a i))
+-- lane q + i of those from lane q on
+pub lane-put : (l a : List ℕ) (at q i : ℕ) → sets (sets l at (bytesAt a (8 * q) (8 * i))) (at + 8 * i) (digits 256 8 (getD a (q + i) 0))
+    ≡ sets l at (bytesAt a (8 * q) (8 * (i + 1)))
+lane-put l a at q i =
+    let place : 8 * (q + i) ≡ 8 * q + 8 * i = omega arith in
+    let bytes : 8 * i + 8 ≡ 8 * (i + 1) = omega arith in
+    ap (sets (sets l at (bytesAt a (8 * q) (8 * i))) (at + 8 * i)) (sym (bytes-lane a (q + i)) ∙ ap (λ (k : ℕ). bytesAt a k 8) place)
+    ∙ more-put l a at (8 * q) (8 * i) 8
+    ∙ ap (λ (k : ℕ). sets l at (bytesAt a (8 * q) k)) bytes

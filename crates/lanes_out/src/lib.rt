@@ -1,6 +1,6 @@
 // Bytes out of the lanes of a block (FIPS 202, B.1): single bytes, lanes of eight, and whole blocks.
 ghost use mathlib.Core.Path.{_≡_};
-ghost use Prim.Native.Nat.{_+_, _-_, _%_, _<_, _≤_, min};
+ghost use Prim.Native.Nat.{_+_, _-_, _*_, _%_, _<_, _≤_, min};
 ghost use lib.ListN.{length};
 ghost use lib.Seq.{sets};
 ghost use Rattle.fips202.specs.Bytes.{byteAt, bytesAt};
@@ -48,43 +48,58 @@ fn byte_at(lanes: &[u64; 25], p: usize) -> u8
     ((lanes[p / 8] >> (8 * (p % 8))) % 256) as u8
 }
 
-// The eight bytes from byte `p` on, where a lane begins, into `out` from `at` on.
-fn put_lane(out: &mut [u8], at: usize, lanes: &[u64; 25], p: usize)
-    requires { ⌜ (p % 8 ≡ 0) × (p < rate) × (at + 8 ≤ length (now out)) ⌝ }
-    ensures { λ r. ⌜ now (out .exit) ≡ sets (now (out .entry)) at (bytesAt (now (lanes .entry)) p 8) ⌝ }
-{
-    store8(out, at, lanes[p / 8]);
-}
-
-// The first 17 lanes, a whole block, into `out` from `at` on.
-fn put_block(out: &mut [u8], at: usize, lanes: &[u64; 25])
-    requires { ⌜ at + rate ≤ length (now out) ⌝ }
-    ensures { λ r. ⌜ now (out .exit) ≡ sets (now (out .entry)) at (bytesAt (now (lanes .entry)) 0 rate) ⌝ }
+// The `m` lanes from lane `q` on into `out` from `at` on.
+fn put_lanes(out: &mut [u8], at: usize, lanes: &[u64; 25], q: usize, m: usize)
+    requires { ⌜ (8 * (q + m) ≤ rate) × (at + 8 * m ≤ length (now out)) ⌝ }
+    ensures { λ r. ⌜ now (out .exit) ≡ sets (now (out .entry)) at (bytesAt (now (lanes .entry)) (8 * q) (8 * m)) ⌝ }
 {
     let mut i = 0;
-    while i < 17 {
-        store8(out, at + 8 * i, lanes[i]);
+    while i < m {
+        store8(out, at + 8 * i, lanes[q + i]);
         i += 1;
     }
 }
 
-// The `n` bytes from byte `p` on, where the block has them, into `out` from `at` on: whole lanes by lanes, single bytes only at ragged ends.
-fn put_some(out: &mut [u8], at: usize, lanes: &[u64; 25], p: usize, n: usize)
+// The `n` bytes from byte `p` on into `out` from `at` on, one by one.
+fn put_few(out: &mut [u8], at: usize, lanes: &[u64; 25], p: usize, n: usize)
     requires { ⌜ (p + n ≤ rate) × (at + n ≤ length (now out)) ⌝ }
     ensures { λ r. ⌜ now (out .exit) ≡ sets (now (out .entry)) at (bytesAt (now (lanes .entry)) p n) ⌝ }
 {
     let mut i = 0;
     while i < n {
-        if (p + i) % 8 == 0 {
-            if 8 <= n - i {
-                put_lane(out, at + i, lanes, p + i);
-                i += 8;
-                continue;
-            }
-        }
         out[at + i] = byte_at(lanes, p + i);
         i += 1;
     }
+}
+
+// The `n` bytes from byte `p` on, where a lane begins: whole lanes by lanes, and then fewer than eight bytes.
+fn put_rest(out: &mut [u8], at: usize, lanes: &[u64; 25], p: usize, n: usize)
+    requires { ⌜ (p % 8 ≡ 0) × (p + n ≤ rate) × (at + n ≤ length (now out)) ⌝ }
+    ensures { λ r. ⌜ now (out .exit) ≡ sets (now (out .entry)) at (bytesAt (now (lanes .entry)) p n) ⌝ }
+{
+    put_lanes(out, at, lanes, p / 8, n / 8);
+    if n % 8 != 0 {
+        let i = n / 8 * 8;
+        put_few(out, at + i, lanes, p + i, n % 8);
+    }
+}
+
+// The `n` bytes from byte `p` on, where the block has them, into `out` from `at` on: the bytes before a lane begins, and the rest.
+fn put_some(out: &mut [u8], at: usize, lanes: &[u64; 25], p: usize, n: usize)
+    requires { ⌜ (p + n ≤ rate) × (at + n ≤ length (now out)) ⌝ }
+    ensures { λ r. ⌜ now (out .exit) ≡ sets (now (out .entry)) at (bytesAt (now (lanes .entry)) p n) ⌝ }
+{
+    if p % 8 == 0 {
+        put_rest(out, at, lanes, p, n);
+        return;
+    }
+    let first = 8 - p % 8;
+    if n < first {
+        put_few(out, at, lanes, p, n);
+        return;
+    }
+    put_few(out, at, lanes, p, first);
+    put_rest(out, at + first, lanes, p + first, n - first);
 }
 
 // As many bytes as the block has from byte `p` on, and `out` has room for from `at` on, into it; how many they are.
@@ -104,7 +119,7 @@ pub fn put_out(out: &mut [u8], at: usize, lanes: &[u64; 25], p: usize) -> usize
         return left;
     }
     if p == 0 {
-        put_block(out, at, lanes);
+        put_lanes(out, at, lanes, 0, 17);
         return RATE;
     }
     put_some(out, at, lanes, p, RATE - p);

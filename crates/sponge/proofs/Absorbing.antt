@@ -109,6 +109,18 @@ pub refreshed-out : (a : List ℕ) (p : ℕ) → rate ≤ p → refreshed (runni
 unfolding refreshed
 refreshed-out a p h = rw (le-ltb p rate h)
 
+-- bytes that the block has room for: put in, and permuted where they fill it
+absorbed-refreshed : (bs a : List ℕ) (p : ℕ) → p < rate → p + length bs ≤ rate
+    → absorbed (running a p) bs ≡ refreshed (running (xorBytes a p bs) (p + length bs))
+absorbed-refreshed bs a p h k = elim (decLe rate (p + length bs)) [
+  | yes full ↦ absorbed-block bs a p h (omega arith) ∙ sym (refreshed-out (xorBytes a p bs) (p + length bs) full)
+  | no room ↦ absorbed-in bs a p (omega arith) ∙ sym (refreshed-in (xorBytes a p bs) (p + length bs) (omega arith))
+]
+
+pub absorbByte-refreshed : (a : List ℕ) (p b : ℕ) → p < rate → refreshed (running (xorByte a p b) (p + 1)) ≡ absorbByte (running a p) b
+unfolding absorbed xorBytes
+absorbByte-refreshed a p b h = sym (absorbed-refreshed (b ∷ []) a p h (omega arith))
+
 -- ---- squeezing
 
 pub squeezed-add : (n m : ℕ) (s : Running) → squeezed (n + m) s ≡ squeezed n s ++ squeezed m (after n s)

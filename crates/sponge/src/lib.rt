@@ -4,7 +4,7 @@ ghost use mathlib.Core.Path.{_≡_};
 ghost use Prim.Native.Nat.{_%_, _<_};
 ghost use lib.ListN.{length, drop, replicate};
 ghost use Rattle.encode.specs.Padding.{rate, shortfall};
-ghost use Rattle.sponge.specs.Running.{running, absorbed, finished, refreshed, squeezed, after};
+ghost use Rattle.sponge.specs.Running.{running, absorbByte, absorbed, finished, refreshed, squeezed, after};
 use blocks::absorb_blocks;
 use encode::RATE;
 use keccak::permute;
@@ -45,6 +45,14 @@ pub fn absorb(lanes: &mut [u64; 25], position: usize, piece: &[u8]) -> usize
     }
     permute(lanes);
     absorb_from(lanes, piece, n)
+}
+
+// The byte `b` put in at `position`; the position after it.
+pub fn absorb_byte(lanes: &mut [u64; 25], position: usize, b: u8) -> usize
+    ensures { λ r. ⌜ (running (now (lanes .exit)) r ≡ absorbByte (running (now (lanes .entry)) (position % rate)) b) × (r < rate) ⌝ }
+{
+    xor_byte(lanes, position, b);
+    refresh(lanes, position % RATE + 1)
 }
 
 // Zeros put in to the end of the block that has begun, as bytepad asks: they change no byte.

@@ -1,10 +1,10 @@
 // How a call or a session starts: the bytes before the message put into the sponge (SP 800-185, 3.3 and 4.3), or the refusal numbers 2, 3 and 4.
 ghost use mathlib.Core.Path.{_≡_};
 ghost use Rattle.calls.specs.Start.{named, keyed};
-ghost use Rattle.start.specs.Started.{refusedStart, Starts};
+ghost use Rattle.start.specs.Started.{Starts};
 use answers::DONE;
-use calls::KMAC;
 use prefix::absorb_key;
+use prefix::absorb_kmac;
 use prefix::absorb_name;
 
 mod prefix;
@@ -20,41 +20,28 @@ pub struct Started {
     pub blocks: usize,
 }
 
-fn refuse(number: u8) -> Started
-    ensures { λ r. ⌜ r ≡ refusedStart number ⌝ }
-{
-    Started {
-        number,
-        lanes: [0u64; 25],
-        suffix: 0,
-        blocks: 0,
-    }
-}
-
 // The start of cSHAKE256.
 pub fn start_named(name: &[u8], customisation: &[u8]) -> Started
     ensures { λ r. ⌜ Starts (named (now (name .entry)) (now (customisation .entry))) r ⌝ }
 {
     let number = refusals::named_refusal(name, customisation);
+    let mut start = Started {
+        number,
+        lanes: [0u64; 25],
+        suffix: 0,
+        blocks: 0,
+    };
     if number != DONE {
-        return refuse(number);
+        return start;
     }
-    let mut lanes = [0u64; 25];
     if name.len() + customisation.len() == 0 {
-        return Started {
-            number: DONE,
-            lanes,
-            suffix: 0x1f,
-            blocks: 0,
-        };
+        start.suffix = 0x1f;
+        return start;
     }
-    let blocks = absorb_name(&mut lanes, name, customisation);
-    Started {
-        number: DONE,
-        lanes,
-        suffix: 0x04,
-        blocks,
-    }
+    let blocks = absorb_name(&mut start.lanes, name, customisation);
+    start.suffix = 0x04;
+    start.blocks = blocks;
+    start
 }
 
 // The start of KMAC256 and KMACXOF256.
@@ -62,16 +49,18 @@ pub fn start_keyed(key: &[u8], customisation: &[u8]) -> Started
     ensures { λ r. ⌜ Starts (keyed (now (key .entry)) (now (customisation .entry))) r ⌝ }
 {
     let number = refusals::keyed_refusal(key, customisation);
+    let mut start = Started {
+        number,
+        lanes: [0u64; 25],
+        suffix: 0,
+        blocks: 0,
+    };
     if number != DONE {
-        return refuse(number);
+        return start;
     }
-    let mut lanes = [0u64; 25];
-    let name_blocks = absorb_name(&mut lanes, &KMAC, customisation);
-    let key_blocks = absorb_key(&mut lanes, key);
-    Started {
-        number: DONE,
-        lanes,
-        suffix: 0x04,
-        blocks: name_blocks + key_blocks,
-    }
+    let name_blocks = absorb_kmac(&mut start.lanes, customisation);
+    let key_blocks = absorb_key(&mut start.lanes, key);
+    start.suffix = 0x04;
+    start.blocks = name_blocks + key_blocks;
+    start
 }

@@ -5,15 +5,31 @@ ghost use mathlib.Core.List.{_++_};
 ghost use Prim.Native.Nat.{_+_, _*_, _%_, _≤_};
 ghost use lib.ListN.{length};
 ghost use Rattle.encode.specs.Padding.{rate};
-ghost use Rattle.encode.specs.Encode.{encodeString, bytepad};
+ghost use Rattle.encode.specs.Encode.{leftEncode, encodeString, bytepad, KMAC};
 ghost use Rattle.sponge.specs.Running.{running, absorbed};
 ghost use Rattle.start.specs.Prefix.{longestString, Padded};
 use encode::RATE;
+use lanes_in::xor_number;
 use sponge::absorb;
 use sponge::absorb_zeros;
 
-// left_encode of the rate
-const ENCODED_RATE: [u8; 2] = [0x01, 0x88];
+// left_encode of the rate, 01 88, and the same with encode_string("KMAC") after it, 01 20 4B 4D 41 43, as the numbers of these bytes.
+const ENCODED_RATE: u64 = 0x8801;
+
+const RATE_AND_KMAC: u64 = 0x4341_4d4b_2001_8801;
+
+// left_encode(136) encode_string(s), as a bytepad begins; the total after it.
+fn absorb_first(lanes: &mut [u64; 25], s: &[u8]) -> usize
+    requires { ⌜ length (now s) ≤ longestString ⌝ }
+    ensures { λ r. ⌜ (r ≡ 2 + length (encodeString (now (s .entry)))) × (r ≤ 2 + (longestString + 9))
+        × (running (now (lanes .exit)) (r % rate) ≡ absorbed (running (now (lanes .entry)) 0) (leftEncode rate ++ encodeString (now (s .entry)))) ⌝ }
+{
+    let code = encode::left_word((8 * s.len()) as u16);
+    xor_number(lanes, 0, ENCODED_RATE + code.number * 0x1_0000);
+    let n = 2 + code.len;
+    absorb(lanes, n, s);
+    n + s.len()
+}
 
 // encode_string(s); the total after it.
 fn absorb_string(lanes: &mut [u64; 25], total: usize, s: &[u8]) -> usize
@@ -34,9 +50,23 @@ pub fn absorb_name(lanes: &mut [u64; 25], name: &[u8], customisation: &[u8]) -> 
     requires { ⌜ (length (now name) ≤ longestString) × (length (now customisation) ≤ longestString) ⌝ }
     ensures { λ r. ⌜ Padded (encodeString (now (name .entry)) ++ encodeString (now (customisation .entry))) (now (lanes .entry)) (now (lanes .exit)) r ⌝ }
 {
-    absorb(lanes, 0, &ENCODED_RATE);
-    let named = absorb_string(lanes, 2, name);
+    let named = absorb_first(lanes, name);
     let total = absorb_string(lanes, named, customisation);
+    absorb_zeros(lanes, total);
+    (total + RATE - 1) / RATE
+}
+
+// The same of the name KMAC, which with the encoded rate fills the first lane.
+pub fn absorb_kmac(lanes: &mut [u64; 25], customisation: &[u8]) -> usize
+    requires { ⌜ length (now customisation) ≤ longestString ⌝ }
+    ensures { λ r. ⌜ Padded (encodeString KMAC ++ encodeString (now (customisation .entry))) (now (lanes .entry)) (now (lanes .exit)) r ⌝ }
+{
+    xor_number(lanes, 0, RATE_AND_KMAC);
+    let code = encode::left_word((8 * customisation.len()) as u16);
+    xor_number(lanes, 1, code.number);
+    let n = 8 + code.len;
+    absorb(lanes, n, customisation);
+    let total = n + customisation.len();
     absorb_zeros(lanes, total);
     (total + RATE - 1) / RATE
 }
@@ -46,8 +76,7 @@ pub fn absorb_key(lanes: &mut [u64; 25], key: &[u8]) -> usize
     requires { ⌜ length (now key) ≤ longestString ⌝ }
     ensures { λ r. ⌜ Padded (encodeString (now (key .entry))) (now (lanes .entry)) (now (lanes .exit)) r ⌝ }
 {
-    absorb(lanes, 0, &ENCODED_RATE);
-    let total = absorb_string(lanes, 2, key);
+    let total = absorb_first(lanes, key);
     absorb_zeros(lanes, total);
     (total + RATE - 1) / RATE
 }

@@ -1,10 +1,12 @@
 -- Laws that encoded and padded bytes are bytes: numbers below 256. Here a number's width counts, since the number of its bytes has to fit a byte.
+use mathlib.Core.Path.{_≡_, refl, ap}
 use mathlib.Core.List.{List, [], _∷_, _++_, reverseAux}
-use Prim.Native.Nat.{ℕ, zero, suc, _*_, _-_, _/_, _^_, _<_}
+use Prim.Native.Nat.{ℕ, zero, suc, _+_, _*_, _-_, _/_, _%_, _^_, _<_}
+use native.Mathlib.Nat.{zero-add, suc-add}
 use native.Mathlib.Omega.{arith}
 use lib.Bits.{bitXor, xor-lt}
 use lib.ListN.{length, getD, set, replicate}
-use Rattle.encode.specs.Digits.{digits, width}
+use Rattle.encode.specs.Digits.{digits, numberOf, width}
 use Rattle.encode.specs.Padding.{rate, shortfall, padTo, withLastBit, padded}
 use Rattle.encode.specs.Encode.{bigEndian, leftEncode, rightEncode, encodeString, bytepad}
 use Rattle.encode.specs.Laws.Digits.{width-fewest}
@@ -41,9 +43,21 @@ set-bytes [] i v p h = tt
 set-bytes (x ∷ l) zero v p h = (h, p .1)
 set-bytes (x ∷ l) (suc i) v p h = (p .0, set-bytes l i v (p .1) h)
 
-digits-bytes : (k n : ℕ) → Bytes (digits 256 k n)
+pub digits-bytes : (k n : ℕ) → Bytes (digits 256 k n)
 digits-bytes zero n = tt
 digits-bytes (suc k) n = (omega arith, digits-bytes k (n / 256))
+
+-- the digits of the number that bytes make are the bytes, and zeros above them
+digits-zero : (m : ℕ) → digits 256 m 0 ≡ replicate m 0
+digits-zero zero = refl
+digits-zero (suc m) = ap (λ (l : List ℕ). 0 ∷ l) (digits-zero m)
+
+pub digits-numberOf : (l : List ℕ) (m : ℕ) → Bytes l → digits 256 (length l + m) (numberOf 256 l) ≡ l ++ replicate m 0
+digits-numberOf [] m p = rw zero-add (digits-zero m)
+digits-numberOf (x ∷ l) m p =
+    let low : (numberOf 256 l * 256 + x) % 256 ≡ x = omega (arith, p .0) in
+    let high : (numberOf 256 l * 256 + x) / 256 ≡ numberOf 256 l = omega (arith, p .0) in
+    rw (suc-add, low, high) (ap (λ (r : List ℕ). x ∷ r) (digits-numberOf l m (p .1)))
 
 bigEndian-bytes : (n : ℕ) → Bytes (bigEndian n)
 unfolding bigEndian

@@ -1,57 +1,21 @@
--- The loop's invariant: the bytes passed are put in. A turn adds a lane where one begins and its bytes are there, or a byte (`Lanes.more-put`).
-use mathlib.Core.Path.{_≡_, refl, _∙_}
-use Prim.Native.Nat.{_≤_, _+_, _-_}
+-- The bytes of the first lane and the rest are all of them (`Lanes.more-put`).
+use mathlib.Core.Path.{_≡_, _∙_}
+use Prim.Native.Nat.{_+_, _-_, _%_}
+use borrow.Author.Needs.{needs}
 use native.Mathlib.Omega.{arith}
-use lib.ListN.{length, take, drop}
-use Rattle.fips202.specs.Bytes.{xorBytes}
-use Rattle.lanes_in.proofs.Lanes.{more-put, byte-put}
+use Rattle.lanes_in.proofs.Lanes.{more-put}
 use Rattle.lanes_in.proofs.xor_some.Statement.{statement}
 use Rattle.lanes_in.proofs.xor_some.Tie as tie
 
-abbrev Inv-loop : tie.InvT-loop
-Inv-loop lanes₀ p s at n i₀ lanes i = (i ≤ n) × (lanes ≡ xorBytes lanes₀ p (take i (drop at s)))
-
-abbrev μ-loop : tie.MeasureT-loop
-μ-loop lanes₀ p s at n i₀ lanes i = n - i
-
-loop-holds : tie.Need-loop-holds Inv-loop μ-loop
-unfolding xorBytes
-loop-holds c = (omega arith, refl)
-
-loop-again : tie.Need-loop-again Inv-loop μ-loop
-loop-again c =
-    let turn = c .before .before .before .before .before in
-    let a = turn .before .before .args in
-    let k = turn .loop in
-    (omega arith, c .xor-lane .ensures ∙ rw (k .inv .1) (more-put (a .s .now) (a .lanes .now) (a .p) (a .at) (k .i) 8 (omega arith)))
-
-loop-again-2 : tie.Need-loop-again-2 Inv-loop μ-loop
-loop-again-2 c =
-    let turn = c .before .before .before .before .before in
-    let a = turn .before .before .args in
-    let k = turn .loop in (
-      omega arith,
-      c .xor-at .ensures
-          ∙ byte-put (a .s .now) (k .lanes) (a .p + k .i) (a .at + k .i) (omega arith)
-          ∙ rw (k .inv .1) (more-put (a .s .now) (a .lanes .now) (a .p) (a .at) (k .i) 1 (omega arith)),
-    )
-
-returns : tie.Need-returns Inv-loop μ-loop
-returns c =
-    let e : c .before .loop .i ≡ c .before .before .before .args .n = omega arith in
-    rw e at (c .before .loop .inv .1)
+returns-2 : tie.Need-returns-2
+returns-2 c =
+    let begun = c .before .before in
+    let a = begun .before .before .before .before .args in
+    let all : 8 - a .p % 8 + (a .n - (8 - a .p % 8)) ≡ a .n = omega arith in
+    let put = more-put (a .s .now) (a .lanes .now) (a .p) (a .at) (8 - a .p % 8) (a .n - (8 - a .p % 8)) (omega arith) in
+    c .xor-rest .ensures ∙ rw (begun .xor-first .ensures) (rw all at put)
 
 pub xor-some-spec : {M : Type 1} → statement M
 xor-some-spec =
     tie.close
-    (tie.spec
-    Inv-loop
-    μ-loop
-    loop-holds
-    (λ c. omega arith) (λ c. omega arith) (λ c. omega arith) (λ c. omega arith)
-    (λ c κs. (omega arith, omega arith, omega arith)) (λ c. omega arith) (λ c. omega arith)
-    loop-again
-    (λ c. omega arith) (λ c. omega arith) (λ c. omega arith)
-    (λ c κs. omega arith) (λ c. omega arith) (λ c. omega arith)
-    loop-again-2
-    returns)
+    (tie.spec (λ c κs. search needs) (λ c. search needs) (λ c κs. search needs) (λ c. search needs) (λ c κs. search needs) returns-2)

@@ -22,7 +22,7 @@ whole-block c =
     let put = c .before .before in
     let branch = put .before .before .before in
     let z : branch .before .before .before .before .args .p ≡ 0 = omega arith in
-    (omega arith, rw z (put .put-block .ensures))
+    (omega arith, rw z (put .put-lanes .ensures))
 
 rest-of-block : tie.Need-returns-5
 rest-of-block c = (omega arith, c .before .before .put-some2 .ensures)

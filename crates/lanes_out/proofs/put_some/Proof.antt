@@ -1,67 +1,35 @@
--- The loop's invariant: the bytes passed stand in `out`. A turn adds a lane where one begins and there is room for it, or a byte (`Lanes.more-put`).
-use mathlib.Core.Path.{_≡_, refl, _∙_}
-use Prim.Native.Nat.{_≤_, _+_, _-_}
+-- The bytes before a lane begins, and the rest (`Lanes.both-put`).
+use mathlib.Core.Path.{_≡_}
+use Prim.Native.Nat.{_-_, _%_}
+use borrow.Author.Needs.{needs}
 use native.Mathlib.Omega.{arith}
-use lib.ListN.{length, length-set}
-use lib.Seq.{sets}
-use Rattle.fips202.specs.Bytes.{bytesAt}
-use Rattle.lanes_out.proofs.Lanes.{more-put, byte-put}
+use Rattle.lanes_out.proofs.Lanes.{both-put}
 use Rattle.lanes_out.proofs.put_some.Statement.{statement}
 use Rattle.lanes_out.proofs.put_some.Tie as tie
 
-abbrev Inv-loop : tie.InvT-loop
-Inv-loop out₀ at lanes p n i₀ out i = (i ≤ n) × (length out ≡ length out₀) × (out ≡ sets out₀ at (bytesAt lanes p i))
-
-abbrev μ-loop : tie.MeasureT-loop
-μ-loop out₀ at lanes p n i₀ out i = n - i
-
-loop-holds : tie.Need-loop-holds Inv-loop μ-loop
-unfolding bytesAt
-loop-holds c = (omega arith, refl, refl)
-
-loop-again : tie.Need-loop-again Inv-loop μ-loop
-loop-again c =
-    let put = c .before .before in
-    let turn = put .before .before .before .before .before in
-    let a = turn .before .before .args in
-    let k = turn .loop in (
-      omega arith,
-      put .put-lane .kept .0 ∙ k .inv .1,
-      put .put-lane .ensures ∙ rw (k .inv .2) (more-put (a .out .now) (a .lanes .now) (a .at) (a .p) (k .i) 8),
-    )
-
-loop-again-2 : tie.Need-loop-again-2 Inv-loop μ-loop
-loop-again-2 c =
-    let turn = c .before .before .before in
-    let a = turn .before .before .args in
-    let k = turn .loop in (
-      omega arith,
-      simp length-set (k .inv .1),
-      rw (c .byte-at .ensures)
-          (byte-put (k .out) (a .lanes .now) (a .at + k .i) (a .p + k .i)
-          ∙ rw (k .inv .2) (more-put (a .out .now) (a .lanes .now) (a .at) (a .p) (k .i) 1)),
-    )
-
-same-length : tie.Need-same-length Inv-loop μ-loop
-same-length c = c .before .loop .inv .1
-
-returns : tie.Need-returns Inv-loop μ-loop
-returns c =
-    let e : c .before .loop .i ≡ c .before .before .before .args .n = omega arith in
-    rw e at (c .before .loop .inv .2)
+returns-3 : tie.Need-returns-3
+returns-3 c =
+    let rest = c .before .before in
+    let first = rest .before .before .before .before in
+    let a = first .before .before .before .before .before .args in
+    let k = 8 - a .p % 8 in
+    both-put (a .out .now) (first .put-few2 .last .0) (rest .put-rest2 .last .0) (a .lanes .now) (a .at) (a .p) k (a .n - k) (a .n) (omega arith)
+    (first .put-few2 .ensures) (rest .put-rest2 .ensures)
 
 pub put-some-spec : {M : Type 1} → statement M
 put-some-spec =
     tie.close
     (tie.spec
-    Inv-loop
-    μ-loop
-    loop-holds
-    (λ c. omega arith) (λ c. omega arith) (λ c. omega arith) (λ c. omega arith)
-    (λ c κs. (omega arith, omega arith, omega arith)) (λ c. omega arith) (λ c. omega arith)
-    loop-again
-    (λ c. omega arith) (λ c κs. omega arith)
-    (λ c. omega arith) (λ c. omega arith) (λ c. omega arith) (λ c. omega arith)
-    loop-again-2
-    same-length
-    returns)
+    (λ c κs. search needs)
+    (λ c. search needs)
+    (λ c. search needs)
+    (λ c. search needs)
+    (λ c κs. search needs)
+    (λ c. search needs)
+    (λ c. search needs)
+    (λ c κs. search needs)
+    (λ c. search needs)
+    (λ c. search needs)
+    (λ c κs. search needs)
+    (λ c. search needs)
+    returns-3)

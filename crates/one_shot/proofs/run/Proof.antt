@@ -24,9 +24,9 @@ returns-2 c =
     let accepted = counted .before in
     let a = accepted .before .before .before .before .args in
     let output =
-    chained (a .start .lanes) (first .absorb .last .0) (second .absorb2 .last .0) (finish .finish .last .0) (a .message .now) (a .ending .now)
-    (first .absorb .result) (second .absorb2 .result) (a .start .suffix) (length (a .out .now)) (first .absorb .ensures .0) (first .absorb .ensures .1)
-    (second .absorb2 .ensures .0) (second .absorb2 .ensures .1) (finish .finish .ensures) in
+    chained (a .start .lanes) (first .absorb .last .0) (second .absorb-ending .last .0) (finish .finish .last .0) (a .message .now) (a .ending .now)
+    (first .absorb .result) (second .absorb-ending .result) (a .start .suffix) (length (a .out .now)) (first .absorb .ensures .0)
+    (second .absorb-ending .ensures .0) (second .absorb-ending .ensures .1) (finish .finish .ensures) in
     (rw (accepted .if1 .left, counted .runs .ensures), rw (accepted .if1 .left) (squeeze .squeeze .ensures .1 ∙ output))
 
 pub run-spec : {M : Type 1} → statement M

@@ -1,5 +1,5 @@
 -- Past the refusal the two bytepads make the prefix (`Answers.keyed-starts`).
-use mathlib.Core.Path.{_≡_, sym, _∙_}
+use mathlib.Core.Path.{_≡_, refl, sym, _∙_}
 use native.Mathlib.Omega.{arith}
 use borrow.Author.Needs.{needs}
 use Rattle.calls.specs.Start.{Start, keyed, startRefusal}
@@ -16,34 +16,32 @@ accepted c = sym (c .before .keyed-refusal .ensures) ∙ c .if1 .left
 
 returns : tie.Need-returns
 returns c =
-    let tested = c .before .before in
-    refused-starts (asked tested) (tested .keyed-refusal .result) (c .refuse .result) (tested .keyed-refusal .ensures)
-    (c .before .if1 .taken) (c .refuse .ensures)
+    let tested = c .before in
+    refused-starts (asked tested) (tested .keyed-refusal .result) _ (tested .keyed-refusal .ensures) (c .if1 .taken) refl
 
-absorb-name-requires : tie.Need-absorb-name-requires
-absorb-name-requires c κs = (omega arith, keyed-lengths _ _ (accepted (c .before .before)) .1)
+absorb-kmac-requires : tie.Need-absorb-kmac-requires
+absorb-kmac-requires c κs = keyed-lengths _ _ (accepted (c .before)) .1
 
 absorb-key-requires : tie.Need-absorb-key-requires
-absorb-key-requires c κs = keyed-lengths _ _ (accepted (c .before .before .before .before)) .0
+absorb-key-requires c κs = keyed-lengths _ _ (accepted (c .before .before .before)) .0
 
 returns-2 : tie.Need-returns-2
 returns-2 c =
     let named = c .before .before in
-    let name = named .absorb-name in
-    let passed = named .before .before .before in
-    keyed-starts _ _ (name .last .0) (c .absorb-key .last .0) (name .result) (c .absorb-key .result)
+    let name = named .absorb-kmac in
+    let passed = named .before .before in
+    rw (passed .if1 .left)
+    (keyed-starts _ _ (name .last .0) (c .absorb-key .last .0) (name .result) (c .absorb-key .result)
     (accepted passed) (name .ensures) (c .absorb-key .ensures)
-    (omega (arith, name .ensures .bounded, c .absorb-key .ensures .bounded))
+    (omega (arith, name .ensures .bounded, c .absorb-key .ensures .bounded)))
 
 pub start-keyed-spec : {M : Type 1} → statement M
 start-keyed-spec =
     tie.close
     (tie.spec
     (λ c κs. search needs)
-    (λ c κs. search needs)
     returns
-    (λ c. search needs)
-    absorb-name-requires
+    absorb-kmac-requires
     absorb-key-requires
     (λ c. search needs)
     returns-2)

@@ -1,5 +1,5 @@
 -- Past the refusal there is nothing to put in (SHAKE256), or one bytepad (`Answers`).
-use mathlib.Core.Path.{_≡_, sym, _∙_}
+use mathlib.Core.Path.{_≡_, refl, sym, _∙_}
 use borrow.Author.Needs.{needs}
 use Rattle.calls.specs.Start.{Start, named, startRefusal}
 use Rattle.start.proofs.Answers.{refused-starts, named-lengths, shake-starts, named-starts}
@@ -15,12 +15,11 @@ accepted c = sym (c .before .named-refusal .ensures) ∙ c .if1 .left
 
 returns : tie.Need-returns
 returns c =
-    let tested = c .before .before in
-    refused-starts (asked tested) (tested .named-refusal .result) (c .refuse .result) (tested .named-refusal .ensures)
-    (c .before .if1 .taken) (c .refuse .ensures)
+    let tested = c .before in
+    refused-starts (asked tested) (tested .named-refusal .result) _ (tested .named-refusal .ensures) (c .if1 .taken) refl
 
 returns-2 : tie.Need-returns-2
-returns-2 c = shake-starts _ _ (accepted (c .before)) (c .if2 .taken)
+returns-2 c = rw (c .before .if1 .left) (shake-starts _ _ (accepted (c .before)) (c .if2 .taken))
 
 absorb-name-requires : tie.Need-absorb-name-requires
 absorb-name-requires c κs = named-lengths _ _ (accepted (c .before .before))
@@ -28,13 +27,13 @@ absorb-name-requires c κs = named-lengths _ _ (accepted (c .before .before))
 returns-3 : tie.Need-returns-3
 returns-3 c =
     let some = c .before .before in
-    named-starts _ _ (c .absorb-name .last .0) (c .absorb-name .result) (accepted (some .before)) (some .if2 .left) (c .absorb-name .ensures)
+    rw (some .before .if1 .left)
+    (named-starts _ _ (c .absorb-name .last .0) (c .absorb-name .result) (accepted (some .before)) (some .if2 .left) (c .absorb-name .ensures))
 
 pub start-named-spec : {M : Type 1} → statement M
 start-named-spec =
     tie.close
     (tie.spec
-    (λ c κs. search needs)
     (λ c κs. search needs)
     returns
     (λ c. search needs)

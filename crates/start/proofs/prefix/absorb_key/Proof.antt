@@ -1,5 +1,4 @@
--- left_encode of the rate, the encoded key and zeros are bytepad of the key (`Strings.padded-lanes`).
-use mathlib.Core.Path.{_≡_}
+-- The encoded key after left_encode of the rate, and zeros, are bytepad of the key (`Strings.padded-lanes`).
 use native.Mathlib.Omega.{arith}
 use borrow.Author.Needs.{needs}
 use Rattle.encode.specs.Encode.{encodeString}
@@ -9,24 +8,19 @@ use Rattle.start.proofs.prefix.absorb_key.Tie as tie
 
 returns : tie.Need-returns
 returns c =
-    let keyed = c .before .before in
-    let begun = keyed .before .before in
-    let a = begun .before .before .before .before .args in
-    let string = keyed .absorb-string in
-    let first = begun .absorb in
-    let lanes = a .lanes .now in
+    let string = c .before .before .absorb-first in
+    let a = c .before .before .before .before .before .args in
     let x = encodeString (a .key .now) in
     record {
       lanes =
-          padded-lanes lanes (first .last .0) (string .last .0) (c .absorb-zeros .last .0) x (string .result) (first .result) (first .ensures .0)
-          (string .ensures .0) (string .ensures .2) (c .absorb-zeros .ensures);
+          padded-lanes (a .lanes .now) (string .last .0) (c .absorb-zeros .last .0) x (string .result) (string .ensures .0) (string .ensures .2)
+          (c .absorb-zeros .ensures);
       blocks =
-          padded-blocks lanes (first .last .0) (string .last .0) (c .absorb-zeros .last .0) x (string .result) (first .result) (first .ensures .0)
-          (string .ensures .0) (string .ensures .2) (c .absorb-zeros .ensures);
+          padded-blocks (a .lanes .now) (string .last .0) (c .absorb-zeros .last .0) x (string .result) (string .ensures .0) (string .ensures .2)
+          (c .absorb-zeros .ensures);
       bounded = omega (arith, string .ensures .1);
     }
 
 pub absorb-key-spec : {M : Type 1} → statement M
 absorb-key-spec =
-    tie.close
-    (tie.spec (λ c. search needs) (λ c κs. search needs) (λ c κs. search needs) (λ c κs. search needs) (λ c. search needs) (λ c. search needs) returns)
+    tie.close (tie.spec (λ c κs. search needs) (λ c κs. search needs) (λ c. search needs) (λ c. search needs) returns)

@@ -1,0 +1,25 @@
+-- The number has one byte, or two (`Words`).
+use native.Mathlib.Omega.{arith}
+use borrow.Author.Needs.{needs}
+use Rattle.encode.proofs.Words.{one-byte, two-bytes}
+use Rattle.encode.proofs.left_word.Statement.{statement}
+use Rattle.encode.proofs.left_word.Tie as tie
+
+returns : tie.Need-returns
+returns c = (one-byte (c .before .args .n) (omega arith), omega arith, omega arith)
+
+returns-2 : tie.Need-returns-2
+returns-2 c = (two-bytes (c .before .args .n) (omega arith) (omega arith), omega arith, omega arith)
+
+pub left-word-spec : {M : Type 1} → statement M
+left-word-spec =
+    tie.close
+    (tie.spec
+    (λ c. search needs)
+    (λ c. search needs)
+    returns
+    (λ c. search needs)
+    (λ c. search needs)
+    (λ c. search needs)
+    (λ c. search needs)
+    returns-2)
