@@ -17,8 +17,8 @@ use Rattle.in_place.specs.Complemented.{under, masked, betweenRounds, complemen
 use Rattle.in_place.specs.Places.{Places, standing, Known, pick, lanes}
 use Rattle.in_place.specs.Rounds.{stateOf}
 use Rattle.in_place.specs.Laws.Passes.{by-places}
-use Rattle.words.specs.Words.{wordAt}
-use Rattle.words.specs.Laws.Lanes.{Bytes, word-is, lane-put, more-put}
+use Rattle.lanes_in.specs.Words.{wordAt}
+use Rattle.lanes_in.specs.Laws.Lanes.{Bytes, word-is, lane-put, more-put}
 use Rattle.blocks.specs.Columns.{xoredAt, evensWith, oddsWith}
 
 module _ (s : List ℕ) (at : ℕ) where

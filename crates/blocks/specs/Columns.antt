@@ -3,7 +3,7 @@ use mathlib.Core.List.{List}
 use Prim.Native.Nat.{ℕ, _+_, _*_}
 use lib.Bits.{bitXor}
 use lib.ListN.{getD, set}
-use Rattle.words.specs.Words.{wordAt}
+use Rattle.lanes_in.specs.Words.{wordAt}
 
 -- w put into element i by exclusive or
 abbrev pub xoredAt : List ℕ → ℕ → ℕ → List ℕ

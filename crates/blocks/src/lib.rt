@@ -15,7 +15,7 @@ use keccak_places::known;
 use keccak_places::odds;
 use keccak_rounds::constants;
 use keccak_rounds::rounds;
-use words::word_at;
+use lanes_in::word_at;
 
 // Row y of the block of `s` at `at` put in, y being 0, 1 or 2.
 fn xor_row(p: &mut [u64; 15], q: &mut [u64; 10], y: usize, s: &[u8], at: usize)

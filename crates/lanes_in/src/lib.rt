@@ -1,10 +1,11 @@
-// Bytes put into the lanes of a block by exclusive or (FIPS 202, B.1): single bytes, lanes of eight, and whole blocks.
+// Bytes put into the lanes of a block by exclusive or (FIPS 202, B.1): single bytes, numbers of eight, and pieces.
 ghost use mathlib.Core.Path.{_≡_};
 ghost use Prim.Native.Nat.{_+_, _-_, _*_, _%_, _<_, _≤_, min};
 ghost use lib.ListN.{length, take, drop};
 ghost use Rattle.fips202.specs.Bytes.{xorByte, xorBytes};
 ghost use Rattle.encode.specs.Digits.{digits, numberOf};
 ghost use Rattle.encode.specs.Padding.{rate};
+ghost use Rattle.lanes_in.specs.Words.{wordAt};
 use encode::RATE;
 
 // The bytes of `s` from `at` on as a number: one, two, four and eight of them. The compiler makes each eight one load.
@@ -36,6 +37,19 @@ fn load8(s: &[u8], at: usize) -> u64
     load4(s, at) + load4(s, at + 4) * 0x1_0000_0000
 }
 
+// The eight bytes of `s` from `at` on as a number; 0 where there are not so many.
+pub fn word_at(s: &[u8], at: usize) -> u64
+    ensures { λ r. ⌜ r ≡ wordAt (now (s .entry)) at ⌝ }
+{
+    if s.len() < 8 {
+        return 0;
+    }
+    if s.len() - 8 < at {
+        return 0;
+    }
+    load8(s, at)
+}
+
 // The byte `b` put in at byte `p` of the block.
 fn xor_at(lanes: &mut [u64; 25], p: usize, b: u8)
     requires { ⌜ p < rate ⌝ }
@@ -50,18 +64,6 @@ fn xor_lane(lanes: &mut [u64; 25], p: usize, s: &[u8], at: usize)
     ensures { λ r. ⌜ now (lanes .exit) ≡ xorBytes (now (lanes .entry)) p (take 8 (drop at (now (s .entry)))) ⌝ }
 {
     lanes[p / 8] = lanes[p / 8] ^ load8(s, at);
-}
-
-// A whole block of `s` from `at` on put into the first 17 lanes.
-fn xor_block(lanes: &mut [u64; 25], s: &[u8], at: usize)
-    requires { ⌜ at + rate ≤ length (now s) ⌝ }
-    ensures { λ r. ⌜ now (lanes .exit) ≡ xorBytes (now (lanes .entry)) 0 (take rate (drop at (now (s .entry)))) ⌝ }
-{
-    let mut i = 0;
-    while i < 17 {
-        lanes[i] = lanes[i] ^ load8(s, at + 8 * i);
-        i += 1;
-    }
 }
 
 // Bytes of `s` from `at` on put in at byte `p`, as many as its lane has from there: the shift drops the others of the eight.
@@ -152,10 +154,6 @@ pub fn xor_in(lanes: &mut [u64; 25], p: usize, s: &[u8], at: usize) -> usize
         return 0;
     }
     let n = shorter(RATE - p, s.len() - at);
-    if n == RATE {
-        xor_block(lanes, s, at);
-        return RATE;
-    }
     xor_some(lanes, p, s, at, n);
     n
 }

@@ -1,7 +1,7 @@
 -- One byte is the number of its one digit.
 use mathlib.Core.Path.{sym}
 use native.Mathlib.Omega.{arith}
-use Rattle.lanes_in.proofs.Lanes.{numberOf-one}
+use Rattle.lanes_in.specs.Laws.Lanes.{numberOf-one}
 use borrow.Author.Needs.{needs}
 use Rattle.lanes_in.proofs.load1.Statement.{statement}
 use Rattle.lanes_in.proofs.load1.Tie as tie

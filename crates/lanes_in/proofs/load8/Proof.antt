@@ -1,6 +1,6 @@
 -- The law that joins two numbers of bytes (`Lanes.numberOf-split`), at 4 and 4.
 use native.Mathlib.Omega.{arith}
-use Rattle.lanes_in.proofs.Lanes.{numberOf-split}
+use Rattle.lanes_in.specs.Laws.Lanes.{numberOf-split}
 use borrow.Author.Needs.{needs}
 use Rattle.lanes_in.proofs.load8.Statement.{statement}
 use Rattle.lanes_in.proofs.load8.Tie as tie

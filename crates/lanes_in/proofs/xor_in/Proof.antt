@@ -1,5 +1,5 @@
--- By cases on whether the block has room, bytes are left, and they fill a whole block: how many bytes that is, and the contract of what puts them in.
-use mathlib.Core.Path.{_≡_, refl}
+-- By cases on whether the block has room, and bytes are left: how many bytes that is, and the contract of what puts them in.
+use mathlib.Core.Path.{refl}
 use borrow.Author.Needs.{needs}
 use native.Mathlib.Omega.{arith}
 use Rattle.fips202.specs.Bytes.{xorBytes}
@@ -14,11 +14,6 @@ no-bytes : tie.Need-returns-2
 unfolding xorBytes
 no-bytes c = (omega arith, refl)
 
-whole-block : tie.Need-returns-3
-whole-block c =
-    let z : c .before .before .before .before .before .before .before .args .p ≡ 0 = omega arith in
-    (omega arith, rw z (c .xor-block .ensures))
-
 pub xor-in-spec : {M : Type 1} → statement M
 xor-in-spec =
     tie.close
@@ -28,7 +23,5 @@ xor-in-spec =
     (λ c. search needs)
     (λ c. search needs)
     (λ c κs. search needs)
-    (λ c κs. search needs)
-    whole-block
     (λ c κs. search needs)
     (λ c. search needs))

@@ -1,7 +1,7 @@
 -- Eight bytes put in at the beginning of a lane are one exclusive or (`Lanes.lane-put`).
 use borrow.Author.Needs.{needs}
 use native.Mathlib.Omega.{arith}
-use Rattle.lanes_in.proofs.Lanes.{lane-put}
+use Rattle.lanes_in.specs.Laws.Lanes.{lane-put}
 use Rattle.lanes_in.proofs.xor_lane.Statement.{statement}
 use Rattle.lanes_in.proofs.xor_lane.Tie as tie
 

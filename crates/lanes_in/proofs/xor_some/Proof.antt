@@ -3,7 +3,7 @@ use mathlib.Core.Path.{_≡_, _∙_}
 use Prim.Native.Nat.{_+_, _-_, _%_}
 use borrow.Author.Needs.{needs}
 use native.Mathlib.Omega.{arith}
-use Rattle.lanes_in.proofs.Lanes.{more-put}
+use Rattle.lanes_in.specs.Laws.Lanes.{more-put}
 use Rattle.lanes_in.proofs.xor_some.Statement.{statement}
 use Rattle.lanes_in.proofs.xor_some.Tie as tie
 

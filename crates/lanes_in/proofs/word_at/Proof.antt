@@ -1,9 +1,9 @@
 -- By cases on whether the bytes are there (`Lanes.word-is`, `Lanes.no-word`).
 use mathlib.Core.Path.{sym, _∙_}
 use native.Mathlib.Omega.{arith}
-use Rattle.words.specs.Laws.Lanes.{word-is, no-word}
-use Rattle.words.proofs.word_at.Statement.{statement}
-use Rattle.words.proofs.word_at.Tie as tie
+use Rattle.lanes_in.specs.Laws.Lanes.{word-is, no-word}
+use Rattle.lanes_in.proofs.word_at.Statement.{statement}
+use Rattle.lanes_in.proofs.word_at.Tie as tie
 
 too-short : tie.Need-returns
 too-short c = sym (no-word _ _ (omega arith))

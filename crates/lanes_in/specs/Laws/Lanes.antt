@@ -13,7 +13,7 @@ use Rattle.fips202.specs.Laws.Xor.{xor-assoc, xor-scale}
 use Rattle.fips202.specs.Laws.Bytes.{upd-upd, xorBytes-append}
 use borrow.Author.Tests.{lt-ltb, le-ltb}
 use Rattle.encode.specs.Digits.{numberOf}
-use Rattle.words.specs.Words.{wordAt}
+use Rattle.lanes_in.specs.Words.{wordAt}
 
 -- ---- reading
 
@@ -63,13 +63,13 @@ no-word s at h = rw (lt-ltb (length s) (at + 8) h)
 abbrev pub Bytes : List ℕ → Type 0
 Bytes l = (k : ℕ) → getD l k 0 < 256
 
-bytes-take : (n : ℕ) (l : List ℕ) → Bytes l → Bytes (take n l)
+pub bytes-take : (n : ℕ) (l : List ℕ) → Bytes l → Bytes (take n l)
 bytes-take zero l h k = omega arith
 bytes-take (suc n) [] h k = omega arith
 bytes-take (suc n) (x ∷ l) h zero = h 0
 bytes-take (suc n) (x ∷ l) h (suc k) = bytes-take n l (λ j. h (suc j)) k
 
-bytes-drop : (n : ℕ) (l : List ℕ) → Bytes l → Bytes (drop n l)
+pub bytes-drop : (n : ℕ) (l : List ℕ) → Bytes l → Bytes (drop n l)
 bytes-drop n l h k = rw (getD-drop n l k 0) (h (n + k))
 
 -- one byte below the others of a lane
@@ -81,7 +81,7 @@ numberOf-shift b m k h =
     ∙ ap (λ (x : ℕ). x * 2 ^ k) (xor-comm b (m * 256) ∙ xor-shifted m 8 b h ∙ omega arith)
 
 -- bytes put into lane i from its byte j on are one exclusive or
-xor-lane-from : (bs a : List ℕ) (i j : ℕ) → j + length bs ≤ 8 → Bytes bs
+pub xor-lane-from : (bs a : List ℕ) (i j : ℕ) → j + length bs ≤ 8 → Bytes bs
     → xorBytes a (8 * i + j) bs ≡ set a i (bitXor (getD a i 0) (numberOf 256 bs * 2 ^ (8 * j)))
 unfolding xorBytes xorByte
 xor-lane-from [] a i j h hb = sym (rw (zero-mul, xor-zero-r, set-getD))
@@ -97,13 +97,13 @@ xor-lane-from (b ∷ bs) a i j h hb =
     (xor-assoc (getD a i 0) (b * 2 ^ (8 * j)) (numberOf 256 bs * 2 ^ (8 * (j + 1)))
     ∙ ap (bitXor (getD a i 0)) (ap (λ (x : ℕ). bitXor (b * 2 ^ (8 * j)) (numberOf 256 bs * 2 ^ x)) w ∙ numberOf-shift b (numberOf 256 bs) (8 * j) (hb 0))))
 
-xor-lane : (bs a : List ℕ) (i : ℕ) → length bs ≤ 8 → Bytes bs → xorBytes a (8 * i) bs ≡ set a i (bitXor (getD a i 0) (numberOf 256 bs))
+pub xor-lane : (bs a : List ℕ) (i : ℕ) → length bs ≤ 8 → Bytes bs → xorBytes a (8 * i) bs ≡ set a i (bitXor (getD a i 0) (numberOf 256 bs))
 xor-lane bs a i h hb =
     let w : numberOf 256 bs * 1 ≡ numberOf 256 bs = omega arith in
     ap (λ (k : ℕ). xorBytes a k bs) (sym (add-zero (8 * i))) ∙ xor-lane-from bs a i 0 (omega arith) hb ∙ ap (λ (x : ℕ). set a i (bitXor (getD a i 0) x)) w
 
 -- the same at byte p, where a lane begins
-xor-lane-at : (bs a : List ℕ) (p : ℕ) → p % 8 ≡ 0 → length bs ≤ 8 → Bytes bs → set a (p / 8) (bitXor (getD a (p / 8) 0) (numberOf 256 bs)) ≡ xorBytes a p bs
+pub xor-lane-at : (bs a : List ℕ) (p : ℕ) → p % 8 ≡ 0 → length bs ≤ 8 → Bytes bs → set a (p / 8) (bitXor (getD a (p / 8) 0) (numberOf 256 bs)) ≡ xorBytes a p bs
 xor-lane-at bs a p z h hb =
     let e : 8 * (p / 8) ≡ p = omega arith in
     sym (xor-lane bs a (p / 8) h hb) ∙ ap (λ (k : ℕ). xorBytes a k bs) e

@@ -1,3 +1,0 @@
--- A word of bytes; then laws on words and lanes.
-pub mod Words
-pub mod Laws
