@@ -20,7 +20,7 @@ HALO = {"stroke": "#ffffff", "stroke_width": 3, "paint_order": "stroke"}  # keep
 
 def table(text):
     """(name, size, ratios) of each row of the table, a ratio None where there is nothing to compare with."""
-    figure = r"(?:[\d,]+(?:\.\d+)?|-)"
+    figure = r"(?:\d+\.\d+|-)"
     rows = re.findall(rf"^(\S.*?) +([\d,]+) +[\d,]+ +[\d,]+ +({figure}) +{figure} +({figure}) +{figure} +{figure}$", text, re.MULTILINE)
     return [(name, size, [None if ratio == "-" else float(ratio) for ratio in ratios]) for name, size, *ratios in rows]
 

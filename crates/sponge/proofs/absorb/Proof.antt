@@ -1,4 +1,4 @@
--- By cases on whether a block begins at the position, and whether the piece fills the block that has begun (`Absorbing.absorbed-begun`, `Absorbing.absorbed-filled`).
+-- By cases on whether a block begins at the position, and whether the piece fills the block that has begun (`absorbed-begun`, `absorbed-filled`).
 use mathlib.Core.Path.{_≡_, _∙_}
 use Prim.Native.Nat.{_%_}
 use native.Mathlib.Omega.{arith}
@@ -30,7 +30,8 @@ block-filled c =
     let e = put .xor-in .ensures in
     let f = c .absorb-from2 .ensures in (
       rw (run .permute .ensures) at (f .0)
-          ∙ absorbed-filled (a .piece .now) (a .lanes .now) _ (a .position % rate) (put .xor-in .result) (omega arith) (omega (arith, e .0)) (e .1) (omega arith),
+          ∙ absorbed-filled (a .piece .now) (a .lanes .now) _ (a .position % rate) (put .xor-in .result)
+          (omega arith) (omega (arith, e .0)) (e .1) (omega arith),
       f .1,
     )
 
