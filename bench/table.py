@@ -31,7 +31,7 @@ def row(key, measured, counted):
 
 
 def small_sizes(counted):
-    """What a block and a short call cost, from our counts: one permutation each, and what is around it."""
+    """What a block and a short call cost, from our counts: their permutations, and what is around these."""
     long, short = (counted["SHAKE256", size, OURS] for size in (MEBIBYTE, 4_096))
     block = (long - short) / (blocks(MEBIBYTE) - blocks(4_096))
     permutation = counted["Keccak-p[1600, 24], runs", RUNS, OURS] / RUNS

@@ -1,4 +1,4 @@
-/* The work that is measured, and who does it: ours, OpenSSL and portable C do the same on the same buffers. */
+/* The work that is measured, and who does it: ours, OpenSSL and portable C, or two archives of ours, do the same on the same buffers. */
 #ifndef WORK_H
 #define WORK_H
 #include <stddef.h>

@@ -74,7 +74,7 @@ static void not_started(hf_step step, uint8_t number) {
 }
 
 void check_sessions(void) {
-    for (size_t n = 1; n <= 300; n += n < 5 ? 1 : 43) pieces(n, 301 - n), pieces(n, n);
+    for (size_t n = 1; n <= 300; n += n < 20 ? 1 : 41) pieces(n, 301 - n), pieces(n, n);
     pieces(135, 136);
     pieces(136, 135);
     pieces(137, 137);

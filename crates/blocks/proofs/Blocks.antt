@@ -1,11 +1,10 @@
 -- One block more: what is left to absorb after it gives what was left before it.
-use mathlib.Core.Path.{_≡_, refl, sym, ap, ap₂, _∙_}
+use mathlib.Core.Path.{_≡_, sym, ap, ap₂, _∙_}
 use mathlib.Core.List.{List}
-use Prim.Native.Nat.{ℕ, suc, _+_, _-_, _*_, _/_, _≤_, _<_}
+use Prim.Native.Nat.{ℕ, suc, _+_, _*_, _≤_, _<_}
 use native.Mathlib.Omega.{arith}
 use lib.ListN.{length, take, drop}
 use lib.Seq.{drop-drop}
-use Rattle.fips202.specs.Fips202.{keccakP}
 use Rattle.fips202.specs.Bytes.{xorBytes}
 use Rattle.encode.specs.Padding.{rate}
 use Rattle.in_place.specs.Rounds.{roundsWith, RoundConstants}

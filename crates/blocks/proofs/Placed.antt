@@ -18,7 +18,7 @@ use Rattle.in_place.specs.Places.{Places, standing, Known, pick, lanes}
 use Rattle.in_place.specs.Rounds.{stateOf}
 use Rattle.in_place.specs.Laws.Passes.{by-places}
 use Rattle.lanes_in.specs.Words.{wordAt}
-use Rattle.lanes_in.specs.Laws.Lanes.{Bytes, word-is, lane-put, more-put}
+use Rattle.lanes_in.specs.Laws.Lanes.{EachByte, word-is, lane-put, more-put}
 use Rattle.blocks.specs.Columns.{xoredAt, evensWith, oddsWith}
 
 module _ (s : List ℕ) (at : ℕ) where
@@ -83,7 +83,7 @@ module _ (s : List ℕ) (at : ℕ) where
   unfolding blockWith wordsIn
   with-words a h = subst (λ (xs : List ℕ). blockWith xs ≡ wordsIn 17 xs) (sym (written-out a h)) refl
 
-  words-are : (n : ℕ) (a : List ℕ) → Bytes s → at + 8 * n ≤ length s → wordsIn n a ≡ xorBytes a 0 (take (8 * n) (drop at s))
+  words-are : (n : ℕ) (a : List ℕ) → EachByte s → at + 8 * n ≤ length s → wordsIn n a ≡ xorBytes a 0 (take (8 * n) (drop at s))
   unfolding wordsIn xorBytes
   words-are zero a b h = refl
   words-are (suc n) a b h =
@@ -98,7 +98,7 @@ module _ (s : List ℕ) (at : ℕ) where
 
   -- ---- together
 
-  pub block-in : (p q p' q' : List ℕ) → Known (standing p q) → Bytes s → at + rate ≤ length s → p' ≡ evensAfter p → q' ≡ oddsAfter q
+  pub block-in : (p q p' q' : List ℕ) → Known (standing p q) → EachByte s → at + rate ≤ length s → p' ≡ evensAfter p → q' ≡ oddsAfter q
       → stateOf p' q' ≡ xorBytes (stateOf p q) 0 (take rate (drop at s))
   unfolding complemented masked
   block-in p q p' q' k b h ep eq =

@@ -1,5 +1,5 @@
 -- The stores of a row, word by word: words that are equal are put in alike.
-use mathlib.Core.Path.{_≡_, ap, ap₂, _∙_}
+use mathlib.Core.Path.{_≡_, ap₂}
 use mathlib.Core.List.{List}
 use Prim.Native.Nat.{ℕ, _+_}
 use Rattle.blocks.specs.Columns.{xoredAt}

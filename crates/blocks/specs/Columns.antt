@@ -1,4 +1,5 @@
--- A block put in where the lanes stand: row y of its lanes, of the bytes of s from `at` on, into the even columns p and the odd columns q.
+-- A block put in where the lanes stand: row y of its lanes, of the bytes of s from `at` on, into the even columns p and the odd columns q. No public contract
+-- cites it.
 use mathlib.Core.List.{List}
 use Prim.Native.Nat.{ℕ, _+_, _*_}
 use lib.Bits.{bitXor}

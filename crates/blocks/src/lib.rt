@@ -39,7 +39,7 @@ fn xor_block(p: &mut [u64; 15], q: &mut [u64; 10], s: &[u8], at: usize)
     ensures { λ r. ⌜ stateOf (now (p .exit)) (now (q .exit))
         ≡ xorBytes (stateOf (now (p .entry)) (now (q .entry))) 0 (take rate (drop at (now (s .entry)))) ⌝ }
 {
-    // Neither is so. The compiler has to be told that the block is there, so that it looks for none of its 17 words.
+    // Neither holds, by the `requires`. Tested once here, the compiler leaves out the tests of the 17 words.
     if s.len() < RATE {
         return;
     }
@@ -56,7 +56,7 @@ fn xor_block(p: &mut [u64; 15], q: &mut [u64; 10], s: &[u8], at: usize)
 }
 
 // The block of `s` at `at` put in, and the rounds with the constants k. It is called at two places, so that it is not inlined: the lanes are then read and
-// written one by one. Two lanes that are read as one, so soon after each of them was written, would have to wait for both writes.
+// written one by one. Inlined, two lanes are put in by one access of 16 bytes, and a block took some 3 per cent longer.
 fn absorb_block(p: &mut [u64; 15], q: &mut [u64; 10], k: &[u64; 24], s: &[u8], at: usize)
     requires { ⌜ at + rate ≤ length (now s) ⌝ }
     ensures { λ r. ⌜ stateOf (now (p .exit)) (now (q .exit))

@@ -2,4 +2,4 @@
 pub mod Facts
 mod Stored
 mod Filled
-mod Words
+mod Codes

@@ -1,10 +1,10 @@
--- What `left_encode`, `right_encode` and `left_word` hand back.
+-- What `left_encode`, `right_encode` and `left_code` hand back.
 use mathlib.Core.Path.{_≡_}
 use mathlib.Core.List.{List, _++_}
 use Prim.Native.Nat.{ℕ, _-_, _≤_}
 use lib.ListN.{length, replicate}
 use Rattle.encode.specs.declared.Encoded.{Encoded}
-use Rattle.encode.specs.declared.Word.{Word}
+use Rattle.encode.specs.declared.Code.{Code}
 use Rattle.encode.specs.Digits.{numberOf}
 
 -- the code in the first of nine bytes, zeros in the others, and the code's length
@@ -18,5 +18,5 @@ pub record Answers (code : List ℕ) (r : Encoded) : Type 0 where
   pub nine : length (r .bytes) ≡ 9
 
 -- the code as one number, its first byte the lowest, and its length
-unfoldable pub wordOf : List ℕ → Word
-wordOf code = record { number = numberOf 256 code; len = length code }
+unfoldable pub codeOf : List ℕ → Code
+codeOf code = record { number = numberOf 256 code; len = length code }

@@ -1,11 +1,11 @@
 // Encoded numbers as SP 800-185, section 2.3.1, has them: right_encode and left_encode of any
-// number of 64 bits. The definitions are those of specs/Encode.antt.
+// number of 64 bits, and left_encode of 16 bits as one number. The definitions are those of specs/Encode.antt.
 ghost use mathlib.Core.Path.{_≡_};
 ghost use Prim.Native.Nat.{_+_, _<_, _≤_};
 ghost use lib.ListN.{length};
 ghost use Rattle.encode.specs.Digits.{width};
 ghost use Rattle.encode.specs.Encode.{leftEncode, rightEncode};
-ghost use Rattle.encode.specs.Answer.{Answers, wordOf};
+ghost use Rattle.encode.specs.Answer.{Answers, codeOf};
 ghost use Rattle.encode.specs.Private.{bigEndianAt};
 
 // The bytes of a block of the sponge, the rate of the 256 bit variants (SP 800-185, 3.2).
@@ -67,23 +67,23 @@ pub fn left_encode(n: u64) -> Encoded
 }
 
 // An encoded number of at most eight bytes, as the number whose bytes they are, the lowest first, and how many they are.
-pub struct Word {
+pub struct Code {
     pub number: u64,
     pub len: usize,
 }
 
-// left_encode of a number of 16 bits, such as the length of any string that is not refused.
-pub fn left_word(n: u16) -> Word
-    ensures { λ r. ⌜ (r ≡ wordOf (leftEncode n)) × (r .number < 0x100_0000) × (r .len ≤ 3) ⌝ }
+// left_encode of a number of 16 bits, such as the length in bits of any string that is not refused.
+pub fn left_code(n: u16) -> Code
+    ensures { λ r. ⌜ (r ≡ codeOf (leftEncode n)) × (r .number < 0x100_0000) × (r .len ≤ 3) ⌝ }
 {
     let x = n as u64;
     if x < 0x100 {
-        return Word {
+        return Code {
             number: 1 + x * 0x100,
             len: 2,
         };
     }
-    Word {
+    Code {
         number: 2 + x / 0x100 * 0x100 + x % 0x100 * 0x1_0000,
         len: 3,
     }

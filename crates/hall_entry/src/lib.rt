@@ -63,7 +63,7 @@ pub fn head_at(plan: &[u8], levels: u32, chutes: u32, at: usize) -> EntryRead
     }
 }
 
-// The entry that starts at a place where either kind may stand. It has a body of its own, so that each of the two has one caller and is put in its place.
+// The entry that starts at a place where either kind may stand. It has a body of its own: each of the two then has one caller, and is inlined there.
 pub fn entry_at(plan: &[u8], at: usize) -> EntryRead
     ensures { λ r. ⌜ ReadsEntry (byteHead 1 0 at (drop at (now (plan .entry)))) r ⌝ }
 {

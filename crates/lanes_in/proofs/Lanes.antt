@@ -12,7 +12,7 @@ use Rattle.fips202.specs.Bytes.{xorBytes}
 use Rattle.encode.specs.Digits.{digits, numberOf}
 use Rattle.encode.specs.Laws.Digits.{numberOf-digits}
 use Rattle.encode.specs.Laws.Bytes.{getD-bytes, digits-bytes}
-use Rattle.lanes_in.specs.Laws.Lanes.{Bytes, numberOf-split, bytes-take, bytes-drop, xor-lane-from, xor-lane, xor-lane-at, more-put}
+use Rattle.lanes_in.specs.Laws.Lanes.{EachByte, numberOf-split, bytes-take, bytes-drop, xor-lane-from, xor-lane, xor-lane-at, more-put}
 
 -- a number's own eight
 pub number-put : (a : List ℕ) (i w : ℕ) → w < 2 ^ 64 → set a i (bitXor (getD a i 0) w) ≡ xorBytes a (8 * i) (digits 256 8 w)
@@ -33,7 +33,7 @@ more-from s a p at from i m h l =
 -- ---- the first of eight bytes, and the last
 
 -- bytes are a number of as many digits
-numberOf-small : (bs : List ℕ) → Bytes bs → numberOf 256 bs < 2 ^ (8 * length bs)
+numberOf-small : (bs : List ℕ) → EachByte bs → numberOf 256 bs < 2 ^ (8 * length bs)
 numberOf-small [] h = omega arith
 numberOf-small (b ∷ bs) h =
     let e : 8 * suc (length bs) ≡ 8 + 8 * length bs = omega arith in
@@ -41,7 +41,7 @@ numberOf-small (b ∷ bs) h =
     omega (arith, numberOf-small bs (λ k. h (suc k)), h 0, m)
 
 -- m bytes and n more, eight together, from `at` on
-module _ (s : List ℕ) (at m n : ℕ) (eight : m + n ≡ 8) (room : at + 8 ≤ length s) (hb : Bytes s) where
+module _ (s : List ℕ) (at m n : ℕ) (eight : m + n ≡ 8) (room : at + 8 ≤ length s) (hb : EachByte s) where
   first-small : numberOf 256 (take m (drop at s)) < 2 ^ (8 * m)
   first-small =
       let k : length (take m (drop at s)) ≡ m = length-take-le m (drop at s) (simp length-drop (omega arith)) in
@@ -70,7 +70,7 @@ module _ (s : List ℕ) (at m n : ℕ) (eight : m + n ≡ 8) (room : at + 8 ≤ 
   last-kept = ap (λ (x : ℕ). x / 2 ^ (8 * m)) last-above ∙ high (numberOf 256 (take n (drop (at + m) s))) (8 * m) first-small
 
 -- put in at byte p: as many as its lane has from there
-pub first-put : (s a : List ℕ) (p at : ℕ) → at + 8 ≤ length s → Bytes s
+pub first-put : (s a : List ℕ) (p at : ℕ) → at + 8 ≤ length s → EachByte s
     → set a (p / 8) (bitXor (getD a (p / 8) 0) (numberOf 256 (take 8 (drop at s)) * 2 ^ (8 * (p % 8)) % 2 ^ 64)) ≡ xorBytes a p (take (8 - p % 8) (drop at s))
 first-put s a p at h hb =
     let bs : List ℕ = take (8 - p % 8) (drop at s) in
@@ -80,7 +80,7 @@ first-put s a p at h hb =
     ∙ ap (λ (k : ℕ). xorBytes a k bs) e
 
 -- the n before `end`, at byte p where a lane begins
-pub last-put : (s a : List ℕ) (p end n : ℕ) → p % 8 ≡ 0 → n ≤ 8 → 8 ≤ end → end ≤ length s → Bytes s
+pub last-put : (s a : List ℕ) (p end n : ℕ) → p % 8 ≡ 0 → n ≤ 8 → 8 ≤ end → end ≤ length s → EachByte s
     → set a (p / 8) (bitXor (getD a (p / 8) 0) (numberOf 256 (take 8 (drop (end - 8) s)) / 2 ^ (64 - 8 * n))) ≡ xorBytes a p (take n (drop (end - n) s))
 last-put s a p end n z h k l hb =
     let e : 64 - 8 * n ≡ 8 * (8 - n) = omega arith in

@@ -1,4 +1,4 @@
-// Bytes put into the lanes of a block by exclusive or (FIPS 202, B.1): single bytes, numbers of eight, and pieces.
+// Bytes put into the lanes of a block by exclusive or (FIPS 202, B.1): single bytes, numbers of eight bytes, and pieces.
 ghost use mathlib.Core.Path.{_≡_};
 ghost use Prim.Native.Nat.{_+_, _-_, _*_, _%_, _<_, _≤_, min};
 ghost use lib.ListN.{length, take, drop};
@@ -82,7 +82,7 @@ fn xor_last(lanes: &mut [u64; 25], p: usize, s: &[u8], end: usize, n: usize)
     lanes[p / 8] = lanes[p / 8] ^ (load8(s, end - 8) >> (64 - 8 * n));
 }
 
-// Of the `n` bytes of `s` from `at` on, which belong at byte `p` and after it, those from the `from`th on, which begins a lane: lane by lane, and what is left.
+// The `n` bytes of `s` from `at` on belong at byte `p` and after it. This puts in those from the `from`th on, which begins a lane: lane by lane, then the last.
 fn xor_rest(lanes: &mut [u64; 25], p: usize, s: &[u8], at: usize, n: usize, from: usize)
     requires { ⌜ ((p + from) % 8 ≡ 0) × (from ≤ n) × (p + n ≤ rate) × (8 ≤ at + n) × (at + n ≤ length (now s)) ⌝ }
     ensures { λ r. ⌜ now (lanes .exit) ≡ xorBytes (now (lanes .entry)) (p + from) (take (n - from) (drop (at + from) (now (s .entry)))) ⌝ }

@@ -1,4 +1,4 @@
-// Bytes out of the lanes of a block (FIPS 202, B.1): single bytes, lanes of eight, and whole blocks.
+// Bytes out of the lanes of a block (FIPS 202, B.1): single bytes, and runs of lanes.
 ghost use mathlib.Core.Path.{_≡_};
 ghost use Prim.Native.Nat.{_+_, _-_, _*_, _%_, _<_, _≤_, min};
 ghost use lib.ListN.{length};

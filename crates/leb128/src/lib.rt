@@ -22,11 +22,11 @@ fn wide(x: u8) -> u32
     x as u32
 }
 
-// Whether a number may end with this group: one of 0 is more than it needs, unless it is the only one or padded numbers are read.
-fn may_end(empty: bool, group: u32) -> bool
-    ensures { λ r. ⌜ r ≡ (empty || ltb 0 group) ⌝ }
+// Whether a number may end with this group after others: one of 0 is more than it needs, unless padded numbers are read.
+fn may_end(padded: bool, group: u32) -> bool
+    ensures { λ r. ⌜ r ≡ (padded || ltb 0 group) ⌝ }
 {
-    if empty {
+    if padded {
         return true;
     }
     0 < group

@@ -6,7 +6,6 @@ use native.Mathlib.Nat.{mod-eq-of-lt}
 use native.Mathlib.Numerals.{add-one}
 use lib.ListN.{length, take, getD}
 use lib.Seq.{take-suc}
-use Rattle.answers.specs.Done.{outcomeOf}
 use Rattle.encode.specs.Padding.{rate}
 use Rattle.sponge.specs.Running.{Running, running, absorbByte, absorbed, finished, squeezed}
 use Rattle.sponge.proofs.Absorbing.{absorbed-append}

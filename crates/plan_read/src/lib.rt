@@ -93,7 +93,7 @@ fn wide(x: u32) -> u64
 fn read_rows(plan: &[u8], first: usize, count: u32, chute: u64) -> PlanRead
     ensures { λ r. ⌜ r ≡ planAnswer chute (rowsFrom count first (drop first (now (plan .entry)))) ⌝ }
 {
-    let mut found = RowRead::NotRow(0); // an enum, for whose sake the compiler branches, which is quicker than moving a row's three values each turn
+    let mut found = RowRead::NotRow(0); // an enum, so that the compiler branches, which is quicker than moving a row's three values each turn
     let mut at = first;
     let mut i: u32 = 0;
     while i < count {

@@ -1,4 +1,4 @@
--- Laws of the sponge a byte at a time: input and output in pieces of any size, and the turns of the loops that absorb and squeeze.
+-- Laws of the sponge a byte at a time: input and output in pieces of any size, and the turn of the loop that squeezes.
 use mathlib.Core.Path.{_≡_, refl, sym, ap, ap₂, _∙_}
 use mathlib.Core.List.{List, [], _∷_, _++_}
 use Prim.Native.Nat.{ℕ, zero, suc, _+_, _-_, _*_, _≤_, _<_, min}
@@ -10,7 +10,6 @@ use lib.Seq.{take-add, take-all, drop-drop, sets}
 use borrow.Author.Tests.{lt-ltb, le-ltb}
 use Rattle.fips202.specs.Fips202.{keccakP}
 use Rattle.fips202.specs.Bytes.{xorByte, xorBytes, byteAt, bytesAt}
-use Rattle.fips202.specs.Laws.Bytes.{bytesAt-append, length-bytesAt}
 use Rattle.encode.specs.Padding.{rate}
 use Rattle.lanes_out.specs.Laws.{sets-append}
 use Rattle.blocks.specs.Blocks.{absorb, wholeBlocks}

@@ -2,11 +2,10 @@
 use mathlib.Core.Path.{_≡_, refl, sym, ap, ap₂, _∙_}
 use mathlib.Core.List.{List, [], _∷_, _++_}
 use Prim.Native.Nat.{ℕ, zero, suc, _+_, _-_, _*_, _/_, _%_, _≤_, _<_}
-use native.Mathlib.Nat.{add-zero, zero-add, suc-add}
+use native.Mathlib.Nat.{zero-add}
 use native.Mathlib.Decide.{decLe}
 use native.Mathlib.Omega.{arith}
-use borrow.Author.Tests.{lt-ltb, le-ltb}
-use lib.ListN.{length, set, getD, take, drop, replicate, length-append, length-set, length-replicate}
+use lib.ListN.{length, take, drop, replicate, length-replicate}
 use lib.Seq.{take-append-le, take-append-add, take-length, take-at, drop-at}
 use Rattle.fips202.specs.Fips202.{keccakP}
 use Rattle.encode.specs.Padding.{rate, blocks, padding, padded}
@@ -17,7 +16,7 @@ use Rattle.fips202.specs.Laws.Bytes.{xorBytes-set, xorBytes-zeros, bytesAt-appe
 use Rattle.blocks.specs.Blocks.{absorb}
 use Rattle.sponge.specs.Sponge.{squeeze, sponge}
 use Rattle.sponge.specs.Same.{SameSponge}
-use Rattle.sponge.specs.Running.{Running, running, fresh, absorbByte, absorbed, finished, refreshed, squeezedByte, afterByte, squeezed, after}
+use Rattle.sponge.specs.Running.{Running, running, fresh, absorbed, finished, squeezedByte, afterByte, squeezed, after}
 use Rattle.sponge.proofs.Absorbing.{absorbByte-in, absorbByte-last, absorbed-append, absorbed-block, absorbed-blocks}
 use Rattle.sponge.proofs.Absorbing.{refreshed-in, refreshed-out, squeezed-add, length-squeezed, squeezed-in, after-in}
 

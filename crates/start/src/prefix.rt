@@ -5,7 +5,7 @@ ghost use mathlib.Core.List.{_++_};
 ghost use Prim.Native.Nat.{_+_, _*_, _%_, _≤_};
 ghost use lib.ListN.{length};
 ghost use Rattle.encode.specs.Padding.{rate};
-ghost use Rattle.encode.specs.Encode.{leftEncode, encodeString, bytepad, KMAC};
+ghost use Rattle.encode.specs.Encode.{leftEncode, encodeString, KMAC};
 ghost use Rattle.sponge.specs.Running.{running, absorbed};
 ghost use Rattle.start.specs.Prefix.{longestString, Padded};
 use encode::RATE;
@@ -24,7 +24,7 @@ fn absorb_first(lanes: &mut [u64; 25], s: &[u8]) -> usize
     ensures { λ r. ⌜ (r ≡ 2 + length (encodeString (now (s .entry)))) × (r ≤ 2 + (longestString + 9))
         × (running (now (lanes .exit)) (r % rate) ≡ absorbed (running (now (lanes .entry)) 0) (leftEncode rate ++ encodeString (now (s .entry)))) ⌝ }
 {
-    let code = encode::left_word((8 * s.len()) as u16);
+    let code = encode::left_code((8 * s.len()) as u16);
     xor_number(lanes, 0, ENCODED_RATE + code.number * 0x1_0000);
     let n = 2 + code.len;
     absorb(lanes, n, s);
@@ -62,7 +62,7 @@ pub fn absorb_kmac(lanes: &mut [u64; 25], customisation: &[u8]) -> usize
     ensures { λ r. ⌜ Padded (encodeString KMAC ++ encodeString (now (customisation .entry))) (now (lanes .entry)) (now (lanes .exit)) r ⌝ }
 {
     xor_number(lanes, 0, RATE_AND_KMAC);
-    let code = encode::left_word((8 * customisation.len()) as u16);
+    let code = encode::left_code((8 * customisation.len()) as u16);
     xor_number(lanes, 1, code.number);
     let n = 8 + code.len;
     absorb(lanes, n, customisation);

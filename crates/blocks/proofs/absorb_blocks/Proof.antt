@@ -1,9 +1,8 @@
 -- The invariant: what is left to absorb gives the answer. A turn absorbs one block (`Blocks.one-block`).
-use mathlib.Core.Path.{_≡_, refl, sym, ap, ap₂, _∙_}
+use mathlib.Core.Path.{_≡_, sym, ap, ap₂, _∙_}
 use Prim.Native.Nat.{_+_, _-_, _*_, _≤_, _<_}
 use native.Mathlib.Omega.{arith}
 use lib.ListN.{length, drop}
-use borrow.Author.Needs.{needs}
 use Rattle.encode.specs.Padding.{rate}
 use Rattle.in_place.specs.Rounds.{stateOf}
 use Rattle.in_place.specs.Laws.Turns.{placed}

@@ -2,7 +2,7 @@
 use mathlib.Core.Path.{_≡_, refl, _∙_}
 use Prim.Native.Nat.{_≤_, _+_, _-_}
 use native.Mathlib.Omega.{arith}
-use lib.ListN.{length, take, drop}
+use lib.ListN.{take, drop}
 use Rattle.fips202.specs.Bytes.{xorBytes}
 use Rattle.lanes_in.specs.Laws.Lanes.{more-put, byte-put}
 use Rattle.lanes_in.proofs.xor_few.Statement.{statement}

@@ -1,8 +1,8 @@
 -- The loop's invariant: the bytes passed are put in, and a lane begins where they end. A turn adds a lane (`Lanes.more-from`); then what is left is added.
-use mathlib.Core.Path.{_≡_, refl, _∙_}
+use mathlib.Core.Path.{_≡_, _∙_}
 use Prim.Native.Nat.{_≤_, _+_, _-_, _%_}
 use native.Mathlib.Omega.{arith}
-use lib.ListN.{length, take, drop}
+use lib.ListN.{take, drop}
 use Rattle.fips202.specs.Bytes.{xorBytes}
 use Rattle.lanes_in.proofs.Lanes.{more-from}
 use Rattle.lanes_in.proofs.xor_rest.Statement.{statement}

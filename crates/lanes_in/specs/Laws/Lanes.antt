@@ -60,16 +60,16 @@ no-word s at h = rw (lt-ltb (length s) (at + 8) h)
 -- ---- putting in
 
 -- each element is a byte
-abbrev pub Bytes : List ℕ → Type 0
-Bytes l = (k : ℕ) → getD l k 0 < 256
+abbrev pub EachByte : List ℕ → Type 0
+EachByte l = (k : ℕ) → getD l k 0 < 256
 
-pub bytes-take : (n : ℕ) (l : List ℕ) → Bytes l → Bytes (take n l)
+pub bytes-take : (n : ℕ) (l : List ℕ) → EachByte l → EachByte (take n l)
 bytes-take zero l h k = omega arith
 bytes-take (suc n) [] h k = omega arith
 bytes-take (suc n) (x ∷ l) h zero = h 0
 bytes-take (suc n) (x ∷ l) h (suc k) = bytes-take n l (λ j. h (suc j)) k
 
-pub bytes-drop : (n : ℕ) (l : List ℕ) → Bytes l → Bytes (drop n l)
+pub bytes-drop : (n : ℕ) (l : List ℕ) → EachByte l → EachByte (drop n l)
 bytes-drop n l h k = rw (getD-drop n l k 0) (h (n + k))
 
 -- one byte below the others of a lane
@@ -81,7 +81,7 @@ numberOf-shift b m k h =
     ∙ ap (λ (x : ℕ). x * 2 ^ k) (xor-comm b (m * 256) ∙ xor-shifted m 8 b h ∙ omega arith)
 
 -- bytes put into lane i from its byte j on are one exclusive or
-pub xor-lane-from : (bs a : List ℕ) (i j : ℕ) → j + length bs ≤ 8 → Bytes bs
+pub xor-lane-from : (bs a : List ℕ) (i j : ℕ) → j + length bs ≤ 8 → EachByte bs
     → xorBytes a (8 * i + j) bs ≡ set a i (bitXor (getD a i 0) (numberOf 256 bs * 2 ^ (8 * j)))
 unfolding xorBytes xorByte
 xor-lane-from [] a i j h hb = sym (rw (zero-mul, xor-zero-r, set-getD))
@@ -97,13 +97,14 @@ xor-lane-from (b ∷ bs) a i j h hb =
     (xor-assoc (getD a i 0) (b * 2 ^ (8 * j)) (numberOf 256 bs * 2 ^ (8 * (j + 1)))
     ∙ ap (bitXor (getD a i 0)) (ap (λ (x : ℕ). bitXor (b * 2 ^ (8 * j)) (numberOf 256 bs * 2 ^ x)) w ∙ numberOf-shift b (numberOf 256 bs) (8 * j) (hb 0))))
 
-pub xor-lane : (bs a : List ℕ) (i : ℕ) → length bs ≤ 8 → Bytes bs → xorBytes a (8 * i) bs ≡ set a i (bitXor (getD a i 0) (numberOf 256 bs))
+pub xor-lane : (bs a : List ℕ) (i : ℕ) → length bs ≤ 8 → EachByte bs → xorBytes a (8 * i) bs ≡ set a i (bitXor (getD a i 0) (numberOf 256 bs))
 xor-lane bs a i h hb =
     let w : numberOf 256 bs * 1 ≡ numberOf 256 bs = omega arith in
     ap (λ (k : ℕ). xorBytes a k bs) (sym (add-zero (8 * i))) ∙ xor-lane-from bs a i 0 (omega arith) hb ∙ ap (λ (x : ℕ). set a i (bitXor (getD a i 0) x)) w
 
 -- the same at byte p, where a lane begins
-pub xor-lane-at : (bs a : List ℕ) (p : ℕ) → p % 8 ≡ 0 → length bs ≤ 8 → Bytes bs → set a (p / 8) (bitXor (getD a (p / 8) 0) (numberOf 256 bs)) ≡ xorBytes a p bs
+pub xor-lane-at : (bs a : List ℕ) (p : ℕ) → p % 8 ≡ 0 → length bs ≤ 8 → EachByte bs
+    → set a (p / 8) (bitXor (getD a (p / 8) 0) (numberOf 256 bs)) ≡ xorBytes a p bs
 xor-lane-at bs a p z h hb =
     let e : 8 * (p / 8) ≡ p = omega arith in
     sym (xor-lane bs a (p / 8) h hb) ∙ ap (λ (k : ℕ). xorBytes a k bs) e
@@ -125,6 +126,6 @@ unfolding xorBytes
 byte-put s a p at h = sym (ap (xorBytes a p) (one-taken at s h))
 
 -- a lane of them, at byte p where one begins
-pub lane-put : (s a : List ℕ) (p at : ℕ) → p % 8 ≡ 0 → Bytes s
+pub lane-put : (s a : List ℕ) (p at : ℕ) → p % 8 ≡ 0 → EachByte s
     → set a (p / 8) (bitXor (getD a (p / 8) 0) (numberOf 256 (take 8 (drop at s)))) ≡ xorBytes a p (take 8 (drop at s))
 lane-put s a p at z hb = xor-lane-at (take 8 (drop at s)) a p z (simp length-take (omega arith)) (bytes-take 8 (drop at s) (bytes-drop at s hb))

@@ -1,6 +1,6 @@
 -- The loop's invariant: the bytes of the lanes passed stand in `out` (`Lanes.lane-put`).
 use mathlib.Core.Path.{_≡_, refl, _∙_}
-use Prim.Native.Nat.{_≤_, _+_, _-_, _*_}
+use Prim.Native.Nat.{_≤_, _-_, _*_}
 use native.Mathlib.Omega.{arith}
 use lib.ListN.{length}
 use lib.Seq.{sets}

@@ -1,6 +1,6 @@
 -- The bytes of the whole lanes, and then those that are left (`Lanes.both-put`).
 use mathlib.Core.Path.{_≡_}
-use Prim.Native.Nat.{_+_, _*_, _/_, _%_}
+use Prim.Native.Nat.{_*_, _/_, _%_}
 use borrow.Author.Needs.{needs}
 use native.Mathlib.Omega.{arith}
 use Rattle.lanes_out.proofs.Lanes.{both-put}

@@ -1,5 +1,4 @@
 -- The bytes before a lane begins, and the rest (`Lanes.both-put`).
-use mathlib.Core.Path.{_≡_}
 use Prim.Native.Nat.{_-_, _%_}
 use borrow.Author.Needs.{needs}
 use native.Mathlib.Omega.{arith}

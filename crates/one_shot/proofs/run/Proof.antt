@@ -1,6 +1,6 @@
 -- The calls put in the message and its ending, end the input and squeeze (`Chain.chained`); a refused call does none of it.
 -- The count is the sum of their permutations.
-use mathlib.Core.Path.{_≡_, ap, _∙_}
+use mathlib.Core.Path.{_∙_}
 use borrow.Author.Needs.{needs}
 use lib.ListN.{length}
 use Rattle.one_shot.specs.Run.{runOutcome, runOutput}

@@ -1,6 +1,6 @@
 -- The stores of the entries to come, made on what is stored so far, are the stores of all entries: each turn stores one.
 use mathlib.Core.Path.{_≡_, refl, sym, _∙_}
-use Prim.Native.Nat.{ℕ, _-_}
+use Prim.Native.Nat.{_-_}
 use native.Mathlib.Omega.{arith}
 use borrow.Author.Needs.{needs}
 use denote.Ref.{now}

@@ -1,28 +1,27 @@
 -- The encoded rate and the code are in one lane, and the string follows (`Strings.headed-absorbed`).
-use mathlib.Core.Path.{_≡_, ap, _∙_}
-use mathlib.Core.List.{_++_}
-use Prim.Native.Nat.{ℕ, _+_, _*_}
+use mathlib.Core.Path.{_≡_, ap}
+use Prim.Native.Nat.{_+_, _*_}
 use native.Mathlib.Omega.{arith}
 use borrow.Author.Needs.{needs}
 use lib.ListN.{length}
-use Rattle.encode.specs.declared.Word.{Word}
+use Rattle.encode.specs.declared.Code.{Code}
 use Rattle.encode.specs.Digits.{numberOf}
-use Rattle.encode.specs.Encode.{leftEncode, encodeString}
-use Rattle.encode.specs.Answer.{wordOf}
+use Rattle.encode.specs.Encode.{leftEncode}
+use Rattle.encode.specs.Answer.{codeOf}
 use Rattle.encode.specs.Laws.Lengths.{length-encodeString, length-leftEncode}
 use Rattle.start.proofs.Strings.{encodedRate, rate-encoded, headed-absorbed}
 use Rattle.start.proofs.prefix.absorb_first.Statement.{statement}
 use Rattle.start.proofs.prefix.absorb_first.Tie as tie
 
 returns : tie.Need-returns
-unfolding wordOf
+unfolding codeOf
 returns c =
     let head = c .before .before .before in
-    let code = head .before .before .before .left-word in
+    let code = head .before .before .before .left-code in
     let a = head .before .before .before .before .before .args in
     let s = a .s .now in
-    let number : code .result .number ≡ numberOf 256 (leftEncode (8 * length s)) = ap (λ (u : Word). u .number) (code .ensures .0) in
-    let len : code .result .len ≡ length (leftEncode (8 * length s)) = ap (λ (u : Word). u .len) (code .ensures .0) in (
+    let number : code .result .number ≡ numberOf 256 (leftEncode (8 * length s)) = ap (λ (u : Code). u .number) (code .ensures .0) in
+    let len : code .result .len ≡ length (leftEncode (8 * length s)) = ap (λ (u : Code). u .len) (code .ensures .0) in (
       omega (arith, len, length-encodeString s, length-leftEncode (8 * length s)),
       omega (arith, code .ensures .2),
       rw rate-encoded

@@ -1,21 +1,21 @@
 -- left_encode of the rate and the name are the first lane, the code of the customisation is in the second (`Strings.headed-absorbed`); then as for any name.
-use mathlib.Core.Path.{_≡_, ap, _∙_}
+use mathlib.Core.Path.{_≡_, ap}
 use mathlib.Core.List.{[], _++_}
-use Prim.Native.Nat.{ℕ, _+_, _*_, _%_}
+use Prim.Native.Nat.{_+_, _*_, _%_}
 use native.Mathlib.Omega.{arith}
 use borrow.Author.Needs.{needs}
 use lib.ListN.{length, length-append}
-use Rattle.encode.specs.declared.Word.{Word}
+use Rattle.encode.specs.declared.Code.{Code}
 use Rattle.encode.specs.Digits.{numberOf}
 use Rattle.encode.specs.Encode.{leftEncode, encodeString, KMAC}
-use Rattle.encode.specs.Answer.{wordOf}
+use Rattle.encode.specs.Answer.{codeOf}
 use Rattle.encode.specs.Laws.Lengths.{length-encodeString, length-leftEncode}
 use Rattle.start.proofs.Strings.{headed-absorbed, kmac-length, kmac-absorbed, joined-strings, padded-lanes, padded-blocks}
 use Rattle.start.proofs.prefix.absorb_kmac.Statement.{statement}
 use Rattle.start.proofs.prefix.absorb_kmac.Tie as tie
 
 returns : tie.Need-returns
-unfolding wordOf
+unfolding codeOf
 returns c =
     let string = c .before .before in
     let head = string .before .before .before in
@@ -24,12 +24,12 @@ returns c =
     let a = begun .before .before .before .args in
     let lanes = a .lanes .now in
     let s = a .customisation .now in
-    let code = coded .left-word in
+    let code = coded .left-code in
     let name = begun .xor-number in
     let length-put = head .xor-number2 in
     let put = string .absorb in
-    let number : code .result .number ≡ numberOf 256 (leftEncode (8 * length s)) = ap (λ (u : Word). u .number) (code .ensures .0) in
-    let len : code .result .len ≡ length (leftEncode (8 * length s)) = ap (λ (u : Word). u .len) (code .ensures .0) in
+    let number : code .result .number ≡ numberOf 256 (leftEncode (8 * length s)) = ap (λ (u : Code). u .number) (code .ensures .0) in
+    let len : code .result .len ≡ length (leftEncode (8 * length s)) = ap (λ (u : Code). u .len) (code .ensures .0) in
     let x = encodeString KMAC ++ encodeString s in
     let n = 8 + code .result .len in
     let total = n + length s in

@@ -1,5 +1,5 @@
 -- The two encoded strings after left_encode of the rate, and zeros, are bytepad of the strings joined (`Strings.padded-lanes`).
-use mathlib.Core.Path.{_≡_, sym, ap, _∙_}
+use mathlib.Core.Path.{_≡_}
 use mathlib.Core.List.{_++_}
 use Prim.Native.Nat.{_+_, _%_}
 use native.Mathlib.Omega.{arith}

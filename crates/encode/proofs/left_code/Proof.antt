@@ -1,9 +1,9 @@
 -- The number has one byte, or two (`Words`).
 use native.Mathlib.Omega.{arith}
 use borrow.Author.Needs.{needs}
-use Rattle.encode.proofs.Words.{one-byte, two-bytes}
-use Rattle.encode.proofs.left_word.Statement.{statement}
-use Rattle.encode.proofs.left_word.Tie as tie
+use Rattle.encode.proofs.Codes.{one-byte, two-bytes}
+use Rattle.encode.proofs.left_code.Statement.{statement}
+use Rattle.encode.proofs.left_code.Tie as tie
 
 returns : tie.Need-returns
 returns c = (one-byte (c .before .args .n) (omega arith), omega arith, omega arith)
@@ -11,8 +11,8 @@ returns c = (one-byte (c .before .args .n) (omega arith), omega arith, omega ari
 returns-2 : tie.Need-returns-2
 returns-2 c = (two-bytes (c .before .args .n) (omega arith) (omega arith), omega arith, omega arith)
 
-pub left-word-spec : {M : Type 1} → statement M
-left-word-spec =
+pub left-code-spec : {M : Type 1} → statement M
+left-code-spec =
     tie.close
     (tie.spec
     (λ c. search needs)
