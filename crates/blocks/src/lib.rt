@@ -56,7 +56,7 @@ fn xor_block(p: &mut [u64; 15], q: &mut [u64; 10], s: &[u8], at: usize)
 }
 
 // The block of `s` at `at` put in, and the rounds with the constants k. It is called at two places, so that it is not inlined: the lanes are then read and
-// written one by one. Inlined, two lanes are put in by one access of 16 bytes, and a block took some 3 per cent longer.
+// written one by one, which was the quickest of the shapes tried (docs/DECISIONS.md).
 fn absorb_block(p: &mut [u64; 15], q: &mut [u64; 10], k: &[u64; 24], s: &[u8], at: usize)
     requires { ⌜ at + rate ≤ length (now s) ⌝ }
     ensures { λ r. ⌜ stateOf (now (p .exit)) (now (q .exit))
