@@ -1,5 +1,5 @@
 -- Laws of the rows read one after another: from the row reader's answer back to the number, and what the lookup keeps while rows are read.
-use mathlib.Core.Path.{_≡_, refl, ap, subst}
+use mathlib.Core.Path.{_≡_, refl, sym, ap, subst, _∙_}
 use mathlib.Core.List.{List, [], _∷_}
 use mathlib.Core.Bool.{Bool, true, false, cond}
 use Prim.Native.Nat.{ℕ, zero, suc, _+_, _-_, _≤_, _<_}
@@ -9,7 +9,7 @@ use lib.Seq.{drop-cons}
 use lib.Dec.{leb, eqb}
 use borrow.Author.Tests.{eq-eqb, ne-eqb, lt-ltb, le-ltb}
 use Rattle.answers.specs.Numbers.{inputTooLong, malformedPlan}
-use Rattle.leb128.specs.Number.{Parsed, value, bad}
+use Rattle.leb128.specs.Number.{Parsed, value, bad, groups}
 use Rattle.leb128.specs.Answers.{numberAnswer}
 use Rattle.leb128.specs.Laws.Reading.{Rest, groups-rest}
 use Rattle.leb128.specs.declared.Number.{Number}
@@ -17,7 +17,7 @@ use Rattle.leb128.specs.declared.Number.the-variants.{Value, Bad}
 use Rattle.plan_read.specs.Limits.{maxPlan, maxRows, readsPadded}
 use Rattle.plan_read.specs.Plan.{planNumber, row, rowAnswer, Plan, rows, refused, malformed, consRow, afterNumber, rowsFrom, planOf, noRow}
 use Rattle.plan_read.specs.Plan.{rowAt, planAnswer}
-use Rattle.plan_read.specs.Answers.{ReadsRow}
+use Rattle.plan_read.specs.Answers.{ReadsRow, parsedRow}
 use Rattle.plan_read.specs.declared.Row.{Row}
 use Rattle.plan_read.specs.declared.RowRead.{RowRead}
 use Rattle.plan_read.specs.declared.RowRead.the-variants.{Found, NotRow}
@@ -47,6 +47,19 @@ row-known at s (bad place) r u e = let z : _≡_ {A = ℕ} 0 1 = cc in absurd (o
 pub row-found : (at : ℕ) (s : List ℕ) (r : Row) → rowAnswer at (planNumber at (drop at s)) ≡ Found r
     → (planNumber at (drop at s) ≡ value (r .destination) (r .end) (drop (r .end) s)) × (r ≡ row (r .destination) at (r .end))
 row-found at s r e = row-known at s (planNumber at (drop at s)) r (groups-rest readsPadded true 2 at s) e
+
+-- the row that stands at a place, all 0 where there is none: as at the plan's end
+abbrev pub rowThere : ℕ → List ℕ → Row
+rowThere at s = parsedRow at (planNumber at (drop at s)) .found
+
+none-at-end : (s : List ℕ) → rowThere (length s) s ≡ noRow
+unfolding groups
+none-at-end s =
+    let h : length s ≤ length s = omega arith in
+    ap (λ (t : List ℕ). parsedRow (length s) (planNumber (length s) t) .found) (drop-of-length-le s h)
+
+row-there : (at : ℕ) (s : List ℕ) (r : Row) → rowAnswer at (planNumber at (drop at s)) ≡ Found r → rowThere at s ≡ r
+row-there at s r e = let f = row-found at s r e in ap (λ (p : Parsed). parsedRow at p .found) (f .0) ∙ sym (f .1)
 
 pub row-none : (at : ℕ) (p : Parsed) (place : ℕ) → rowAnswer at p ≡ NotRow place → p ≡ bad place
 row-none at (value v n rest) place e = cc
@@ -83,9 +96,13 @@ kept-first : (c : ℕ) (l : List Row) → keptRow c 0 noRow l ≡ rowAt c l
 kept-first zero l = kept-past 0 0 noRow l (omega arith)
 kept-first (suc c) l = kept-at (suc c) 0 c noRow l (omega arith)
 
-pub keeping-start : (c : ℕ) (p : Plan) → keeping c 0 noRow p ≡ planAnswer c p
-keeping-start c (rows l) = let e : 0 + length l ≡ length l = omega arith in rw (e, kept-first)
-keeping-start c (refused n place) = refl
+keeping-none : (c : ℕ) (p : Plan) → keeping c 0 noRow p ≡ planAnswer c p
+keeping-none c (rows l) = let e : 0 + length l ≡ length l = omega arith in rw (e, kept-first)
+keeping-none c (refused n place) = refl
+
+-- before the first row
+pub keeping-start : (c : ℕ) (s : List ℕ) (p : Plan) → keeping c 0 (rowThere (length s) s) p ≡ planAnswer c p
+keeping-start c s p = ap (λ (r : Row). keeping c 0 r p) (none-at-end s) ∙ keeping-none c p
 
 keeping-row : (c i : ℕ) (d r : Row) (p : Plan) → keeping c i d (consRow r p) ≡ keeping c (i + 1) (cond (eqb (i + 1) c) r d) p
 unfolding keptRow
@@ -104,8 +121,10 @@ module _ (c i at n : ℕ) (d : Row) (s : List ℕ) where
 
   -- it is the chute's, and kept, or another's
   pub keeping-new : (r : Row) → i < n → rowAnswer at (planNumber at (drop at s)) ≡ Found r → i + 1 ≡ c
-      → keeping c i d (rowsFrom (n - i) at (drop at s)) ≡ keeping c (i + 1) r (rowsFrom (n - (i + 1)) (r .end) (drop (r .end) s))
-  keeping-new r h e q = rw (eq-eqb _ _ q) at (keeping-more r h e)
+      → keeping c i d (rowsFrom (n - i) at (drop at s)) ≡ keeping c (i + 1) (rowThere at s) (rowsFrom (n - (i + 1)) (r .end) (drop (r .end) s))
+  keeping-new r h e q =
+      rw (eq-eqb _ _ q) at (keeping-more r h e)
+      ∙ ap (λ (k : Row). keeping c (i + 1) k (rowsFrom (n - (i + 1)) (r .end) (drop (r .end) s))) (sym (row-there at s r e))
 
   pub keeping-old : (r : Row) → i < n → rowAnswer at (planNumber at (drop at s)) ≡ Found r → (i + 1 ≡ c → ⊥)
       → keeping c i d (rowsFrom (n - i) at (drop at s)) ≡ keeping c (i + 1) d (rowsFrom (n - (i + 1)) (r .end) (drop (r .end) s))

@@ -89,11 +89,12 @@ fn wide(x: u32) -> u64
     x as u64
 }
 
-// Reads the rows from a place on, `count` of them and then nothing more. The first bad row ends the reading.
+// Reads the rows from a place on, `count` of them and then nothing more. The first bad row ends the reading. Of the chute's row the loop keeps only where it
+// starts, and the row is read again from there at the end: so no destination is put together in the loop, which reads every row for its end alone.
 fn read_rows(plan: &[u8], first: usize, count: u32, chute: u64) -> PlanRead
     ensures { λ r. ⌜ r ≡ planAnswer chute (rowsFrom count first (drop first (now (plan .entry)))) ⌝ }
 {
-    let mut found = RowRead::NotRow(0); // an enum, so that the compiler branches, which is quicker than moving a row's three values each turn
+    let mut kept = plan.len(); // where the chute's row starts; until it is met, the plan's end, where no row stands
     let mut at = first;
     let mut i: u32 = 0;
     while i < count {
@@ -102,17 +103,17 @@ fn read_rows(plan: &[u8], first: usize, count: u32, chute: u64) -> PlanRead
             return malformed(place_of(read));
         };
         i += 1;
-        at = row.end;
         if wide(i) == chute {
-            found = read;
+            kept = at;
         }
+        at = row.end;
     }
     if at < plan.len() {
         return malformed(at);
     }
     PlanRead::Rows {
         count,
-        row: row_of(found),
+        row: row_of(row_at(plan, kept)),
     }
 }
 

@@ -8,20 +8,20 @@ use denote.Ref.{now}
 use lib.ListN.{drop}
 use Rattle.answers.specs.Numbers.{malformedPlan}
 use Rattle.plan_read.specs.Plan.{rowsFrom, planAnswer}
-use Rattle.plan_read.specs.Answers.{rowValues}
+use Rattle.plan_read.specs.Answers.{RowValues, rowValues}
 use Rattle.plan_read.specs.declared.RowRead.{RowRead}
 use Rattle.plan_read.specs.declared.PlanRead.the-variants.{Rows, Refused}
-use Rattle.plan_read.proofs.Rows.{keeping, keeping-start, keeping-new, keeping-old, keeping-bad, keeping-over, keeping-done}
+use Rattle.plan_read.proofs.Rows.{rowThere, keeping, keeping-start, keeping-new, keeping-old, keeping-bad, keeping-over, keeping-done}
 use Rattle.plan_read.proofs.read_rows.Statement.{statement}
 use Rattle.plan_read.proofs.read_rows.Tie as tie
 
 abbrev Inv-loop : tie.InvT-loop
-Inv-loop plan first count chute found₀ at₀ i₀ found at i =
-    (i ≤ count) × (keeping chute i (rowValues found .found) (rowsFrom (count - i) at (drop at plan))
+Inv-loop plan first count chute kept₀ at₀ i₀ kept at i =
+    (i ≤ count) × (keeping chute i (rowThere kept plan) (rowsFrom (count - i) at (drop at plan))
     ≡ planAnswer chute (rowsFrom count first (drop first plan)))
 
 abbrev μ-loop : tie.MeasureT-loop
-μ-loop plan first count chute found₀ at₀ i₀ found at i = count - i
+μ-loop plan first count chute kept₀ at₀ i₀ kept at i = count - i
 
 -- where a turn began, and the function
 abbrev turn : tie.After-row-at Inv-loop μ-loop → tie.At-loop Inv-loop μ-loop
@@ -38,7 +38,7 @@ loop-holds : tie.Need-loop-holds Inv-loop μ-loop
 loop-holds c =
     let a = c .before .args in
     let e : a .count - 0 ≡ a .count = omega arith in
-    (omega arith, rw e (keeping-start (a .chute) (rowsFrom (a .count) (a .first) (drop (a .first) (now (a .plan))))))
+    (omega arith, rw e (keeping-start (a .chute) (now (a .plan)) (rowsFrom (a .count) (a .first) (drop (a .first) (now (a .plan))))))
 
 row-at-requires : tie.Need-row-at-requires Inv-loop μ-loop
 row-at-requires c κs = search needs
@@ -63,7 +63,7 @@ returns c =
     let a = start (turn r) .args in
     let other = m .enum-told .given in
     c .malformed .ensures ∙ ap (Refused malformedPlan) (c .before .place-of .ensures ∙ ap (λ (q : RowRead). rowValues q .place) (other .1))
-    ∙ sym (keeping-bad (a .chute) (l .i) (l .at) (a .count) (rowValues (l .found) .found) (now (a .plan)) (other .0 .0) (r .before .loop-test .taken)
+    ∙ sym (keeping-bad (a .chute) (l .i) (l .at) (a .count) (rowThere (l .kept) (now (a .plan))) (now (a .plan)) (other .0 .0) (r .before .loop-test .taken)
     (sym (r .row-at .ensures .answer) ∙ other .1))
     ∙ l .inv .1
 
@@ -84,7 +84,7 @@ loop-again c =
     let a = start (turn r) .args in
     let got = w .before .before .read .given in (
       omega (arith, r .before .loop-test .taken),
-      sym (keeping-new (a .chute) (l .i) (l .at) (a .count) (rowValues (l .found) .found) (now (a .plan)) (got .0 .0) (r .before .loop-test .taken)
+      sym (keeping-new (a .chute) (l .i) (l .at) (a .count) (rowThere (l .kept) (now (a .plan))) (now (a .plan)) (got .0 .0) (r .before .loop-test .taken)
           (sym (r .row-at .ensures .answer) ∙ got .1)
           (sym (w .wide .ensures) ∙ c .if1 .taken))
           ∙ l .inv .1,
@@ -101,7 +101,7 @@ loop-again-2 c =
     let a = start (turn r) .args in
     let got = w .before .before .read .given in (
       omega (arith, r .before .loop-test .taken),
-      sym (keeping-old (a .chute) (l .i) (l .at) (a .count) (rowValues (l .found) .found) (now (a .plan)) (got .0 .0) (r .before .loop-test .taken)
+      sym (keeping-old (a .chute) (l .i) (l .at) (a .count) (rowThere (l .kept) (now (a .plan))) (now (a .plan)) (got .0 .0) (r .before .loop-test .taken)
           (sym (r .row-at .ensures .answer) ∙ got .1)
           (λ e. c .if1 .left (w .wide .ensures ∙ e)))
           ∙ l .inv .1,
@@ -116,21 +116,25 @@ returns-2 c =
     let l = past .before .loop in
     let a = start (past .before) .args in
     c .malformed2 .ensures
-    ∙ sym (keeping-over (a .chute) (l .i) (l .at) (a .count) (rowValues (l .found) .found) (now (a .plan)) (past .loop-test .left) (c .before .if2 .taken))
+    ∙ sym (keeping-over (a .chute) (l .i) (l .at) (a .count) (rowThere (l .kept) (now (a .plan))) (now (a .plan)) (past .loop-test .left) (c .before .if2 .taken))
     ∙ l .inv .1
+
+row-at-requires-2 : tie.Need-row-at-requires-2 Inv-loop μ-loop
+row-at-requires-2 c κs = search needs
 
 row-of-requires : tie.Need-row-of-requires Inv-loop μ-loop
 row-of-requires c κs = search needs
 
 returns-3 : tie.Need-returns-3 Inv-loop μ-loop
 returns-3 c =
-    let past = c .before .before in
+    let again = c .before in
+    let past = again .before .before in
     let l = past .before .loop in
     let a = start (past .before) .args in
     let e : a .count ≡ l .i = omega (arith, l .inv .0, past .loop-test .left) in
-    ap (Rows (a .count)) (c .row-of .ensures)
-    ∙ ap (λ (n : ℕ). Rows n (rowValues (l .found) .found)) e
-    ∙ sym (keeping-done (a .chute) (l .i) (l .at) (a .count) (rowValues (l .found) .found) (now (a .plan)) (past .loop-test .left) (c .before .if2 .left))
+    ap (Rows (a .count)) (c .row-of .ensures ∙ ap (λ (v : RowValues). v .found) (again .row-at2 .ensures .values))
+    ∙ ap (λ (n : ℕ). Rows n (rowThere (l .kept) (now (a .plan)))) e
+    ∙ sym (keeping-done (a .chute) (l .i) (l .at) (a .count) (rowThere (l .kept) (now (a .plan))) (now (a .plan)) (past .loop-test .left) (again .before .if2 .left))
     ∙ l .inv .1
 
 pub read-rows-spec : {M : Type 1} → statement M
@@ -154,5 +158,6 @@ read-rows-spec =
     loop-again-2
     malformed-requires-2
     returns-2
+    row-at-requires-2
     row-of-requires
     returns-3)
