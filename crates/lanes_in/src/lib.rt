@@ -1,6 +1,6 @@
 // Bytes put into the lanes of a block by exclusive or (FIPS 202, B.1): single bytes, numbers of eight bytes, and pieces.
 ghost use mathlib.Core.Path.{_≡_};
-ghost use Prim.Native.Nat.{_+_, _-_, _*_, _%_, _<_, _≤_, min};
+ghost use Prim.Native.Nat.{_+_, _-_, _*_, _/_, _%_, _<_, _≤_, min};
 ghost use lib.ListN.{length, take, drop};
 ghost use Rattle.fips202.specs.Bytes.{xorByte, xorBytes};
 ghost use Rattle.encode.specs.Digits.{digits, numberOf};
@@ -137,9 +137,10 @@ pub fn xor_byte(lanes: &mut [u64; 25], p: usize, b: u8)
 
 // The eight bytes whose number is `w`, the lowest first, put in at lane `i` of the block, i taken modulo its number of lanes.
 pub fn xor_number(lanes: &mut [u64; 25], i: usize, w: u64)
-    ensures { λ r. ⌜ now (lanes .exit) ≡ xorBytes (now (lanes .entry)) (8 * (i % 17)) (digits 256 8 w) ⌝ }
+    ensures { λ r. ⌜ now (lanes .exit) ≡ xorBytes (now (lanes .entry)) (8 * (i % (rate / 8))) (digits 256 8 w) ⌝ }
 {
-    lanes[i % 17] = lanes[i % 17] ^ w;
+    let lane = i % (RATE / 8);
+    lanes[lane] = lanes[lane] ^ w;
 }
 
 // As many bytes of `s` from `at` on as the block has room for from byte `p` on; how many they are.

@@ -119,7 +119,7 @@ pub fn put_out(out: &mut [u8], at: usize, lanes: &[u64; 25], p: usize) -> usize
         return left;
     }
     if p == 0 {
-        put_lanes(out, at, lanes, 0, 17);
+        put_lanes(out, at, lanes, 0, RATE / 8);
         return RATE;
     }
     put_some(out, at, lanes, p, RATE - p);
