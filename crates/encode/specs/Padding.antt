@@ -12,6 +12,10 @@ rate = 136
 abbrev pub blocks : ℕ → ℕ
 blocks n = (n + (rate - 1)) / rate
 
+-- the whole blocks of s from `at` on
+abbrev pub wholeBlocks : List ℕ → ℕ → ℕ
+wholeBlocks s at = (length s - at) / rate
+
 -- how many bytes n falls short of a multiple of r
 abbrev pub shortfall : ℕ → ℕ → ℕ
 shortfall r n = (r - n % r) % r

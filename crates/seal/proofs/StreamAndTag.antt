@@ -16,7 +16,7 @@ use Rattle.calls.specs.Count.{outputRuns, runs}
 use Rattle.calls.specs.Laws.Runs.{runs-by-lengths}
 use Rattle.sponge.specs.Sponge.{sponge}
 use Rattle.sponge.specs.Running.{Running, running, finished, squeezed, after}
-use Rattle.sponge.proofs.Absorbing.{after-in}
+use Rattle.sponge.proofs.Squeezing.{after-in}
 use Rattle.sponge.proofs.Whole.{squeezed-take, squeezed-drop}
 use Rattle.start.specs.Started.{started, mostBlocks, Starts}
 use Rattle.start.proofs.Calls.{start-blocks, call-output}

@@ -8,7 +8,8 @@ use native.Mathlib.Omega.{arith}
 use lib.ListN.{length, length-append}
 use Rattle.encode.specs.Padding.{rate}
 use Rattle.sponge.specs.Running.{Running, running, absorbed, finished, squeezed, after}
-use Rattle.sponge.proofs.Absorbing.{absorbed-append, squeezed-add, length-squeezed}
+use Rattle.sponge.proofs.Absorbing.{absorbed-append}
+use Rattle.sponge.proofs.Squeezing.{squeezed-add, length-squeezed}
 use Rattle.sponge.proofs.Whole.{absorbed-position}
 use Rattle.session_state.specs.declared.Phase.{Phase}
 use Rattle.session_state.specs.declared.Phase.the-variants.{Taking, Giving}

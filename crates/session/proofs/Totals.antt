@@ -5,7 +5,7 @@ use native.Mathlib.Omega.{arith}
 use lib.ListN.{length, length-append}
 use Rattle.calls.specs.Limits.{maxMessage}
 use Rattle.sponge.specs.Running.{Running, squeezed}
-use Rattle.sponge.proofs.Absorbing.{length-squeezed}
+use Rattle.sponge.proofs.Squeezing.{length-squeezed}
 use Rattle.session_state.specs.declared.Session.{Session}
 use Rattle.session_state.specs.Session.{givingSponge}
 use Rattle.session.specs.History.{SessionCall, acceptedPieces, output}

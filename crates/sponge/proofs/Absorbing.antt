@@ -1,19 +1,18 @@
--- Laws of the sponge a byte at a time: input and output in pieces of any size, and the turn of the loop that squeezes.
+-- Laws of the sponge a byte at a time: input in pieces of any size, and the block that is full.
 use mathlib.Core.Path.{_≡_, refl, sym, ap, ap₂, _∙_}
 use mathlib.Core.List.{List, [], _∷_, _++_}
 use Prim.Native.Nat.{ℕ, zero, suc, _+_, _-_, _*_, _≤_, _<_, min}
-use native.Mathlib.Nat.{add-zero, zero-add, suc-add}
+use native.Mathlib.Nat.{add-zero}
 use native.Mathlib.Decide.{decLe}
 use native.Mathlib.Omega.{arith}
 use lib.ListN.{length, take, drop, take-append-drop, length-take, length-drop}
-use lib.Seq.{take-add, take-all, drop-drop, sets}
+use lib.Seq.{take-add, take-all, drop-drop}
 use borrow.Author.Tests.{lt-ltb, le-ltb}
 use Rattle.fips202.specs.Fips202.{keccakP}
-use Rattle.fips202.specs.Bytes.{xorByte, xorBytes, byteAt, bytesAt}
-use Rattle.encode.specs.Padding.{rate}
-use Rattle.lanes_out.specs.Laws.{sets-append}
-use Rattle.blocks.specs.Blocks.{absorb, wholeBlocks}
-use Rattle.sponge.specs.Running.{Running, running, absorbByte, absorbed, refreshed, squeezedByte, afterByte, squeezed, after}
+use Rattle.fips202.specs.Bytes.{xorByte, xorBytes}
+use Rattle.encode.specs.Padding.{rate, wholeBlocks}
+use Rattle.blocks_in.specs.Blocks.{absorb}
+use Rattle.sponge.specs.Running.{Running, running, absorbByte, absorbed, refreshed}
 
 -- ---- absorbing
 
@@ -119,67 +118,3 @@ absorbed-refreshed bs a p h k = elim (decLe rate (p + length bs)) [
 pub absorbByte-refreshed : (a : List ℕ) (p b : ℕ) → p < rate → refreshed (running (xorByte a p b) (p + 1)) ≡ absorbByte (running a p) b
 unfolding absorbed xorBytes
 absorbByte-refreshed a p b h = sym (absorbed-refreshed (b ∷ []) a p h (omega arith))
-
--- ---- squeezing
-
-pub squeezed-add : (n m : ℕ) (s : Running) → squeezed (n + m) s ≡ squeezed n s ++ squeezed m (after n s)
-unfolding squeezed after
-squeezed-add zero m s = rw zero-add
-squeezed-add (suc n) m s = ap (λ (k : ℕ). squeezed k s) (suc-add n m) ∙ ap (λ (l : List ℕ). squeezedByte s ∷ l) (squeezed-add n m (afterByte s))
-
-pub after-add : (n m : ℕ) (s : Running) → after (n + m) s ≡ after m (after n s)
-unfolding after
-after-add zero m s = rw zero-add
-after-add (suc n) m s = ap (λ (k : ℕ). after k s) (suc-add n m) ∙ after-add n m (afterByte s)
-
-pub length-squeezed : (n : ℕ) (s : Running) → length (squeezed n s) ≡ n
-unfolding squeezed
-length-squeezed zero s = refl
-length-squeezed (suc n) s = ap suc (length-squeezed n (afterByte s))
-
--- ---- bytes squeezed out of one block
-
-pub squeezed-in : (n : ℕ) (a : List ℕ) (p : ℕ) → p + n ≤ rate → squeezed n (running a p) ≡ bytesAt a p n
-unfolding squeezed bytesAt squeezedByte afterByte
-squeezed-in zero a p h = refl
-squeezed-in (suc n) a p h =
-    ap (λ (t : Running). byteAt (t .lanes) (t .position) ∷ squeezed n (running (t .lanes) (t .position + 1))) (refreshed-in a p (omega arith))
-    ∙ ap (λ (r : List ℕ). byteAt a p ∷ r) (squeezed-in n a (p + 1) (omega arith))
-
-pub after-in : (n : ℕ) (a : List ℕ) (p : ℕ) → p + n ≤ rate → after n (running a p) ≡ running a (p + n)
-unfolding after afterByte
-after-in zero a p h = ap (running a) (sym (add-zero p))
-after-in (suc n) a p h =
-    ap (λ (t : Running). after n (running (t .lanes) (t .position + 1))) (refreshed-in a p (omega arith))
-    ∙ after-in n a (p + 1) (omega arith)
-    ∙ ap (running a) (omega arith)
-
--- the next block is due before its first byte, or has come
-squeezed-run : (n : ℕ) (t : Running) (a : List ℕ) (p : ℕ) → running a p ≡ refreshed t → p + suc n ≤ rate → squeezed (suc n) t ≡ bytesAt a p (suc n)
-unfolding squeezed bytesAt squeezedByte afterByte
-squeezed-run n t a p e h =
-    ap (λ (u : Running). byteAt (u .lanes) (u .position) ∷ squeezed n (running (u .lanes) (u .position + 1))) (sym e)
-    ∙ ap (λ (r : List ℕ). byteAt a p ∷ r) (squeezed-in n a (p + 1) (omega arith))
-
-after-run : (n : ℕ) (t : Running) (a : List ℕ) (p : ℕ) → running a p ≡ refreshed t → p + suc n ≤ rate → after (suc n) t ≡ running a (p + suc n)
-unfolding after afterByte
-after-run n t a p e h =
-    ap (λ (u : Running). after n (running (u .lanes) (u .position + 1))) (sym e)
-    ∙ after-in n a (p + 1) (omega arith)
-    ∙ ap (running a) (omega arith)
-
--- a turn of a loop that squeezes into l: n bytes out of one block
-pub after-turn : (s : Running) (a b : List ℕ) (i p q n : ℕ) → running b q ≡ after i s → running a p ≡ refreshed (running b q) → 0 < n → p + n ≤ rate
-    → running a (p + n) ≡ after (i + n) s
-after-turn s a b i p q zero e f g h = absurd (omega arith)
-after-turn s a b i p q (suc n) e f g h = sym (after-add i (suc n) s ∙ ap (after (suc n)) (sym e) ∙ after-run n (running b q) a p f h)
-
-pub squeezed-turn : (s : Running) (l a b : List ℕ) (i p q n : ℕ) → running b q ≡ after i s → running a p ≡ refreshed (running b q) → 0 < n → p + n ≤ rate
-    → sets (sets l 0 (squeezed i s)) i (bytesAt a p n) ≡ sets l 0 (squeezed (i + n) s)
-squeezed-turn s l a b i p q zero e f g h = absurd (omega arith)
-squeezed-turn s l a b i p q (suc n) e f g h =
-    let z : i ≡ 0 + length (squeezed i s) = omega (arith, length-squeezed i s) in
-    ap (λ (k : ℕ). sets (sets l 0 (squeezed i s)) k (bytesAt a p (suc n))) z
-    ∙ sets-append (squeezed i s) (bytesAt a p (suc n)) l 0
-    ∙ ap (λ (r : List ℕ). sets l 0 (squeezed i s ++ r)) (sym (squeezed-run n (running b q) a p f h) ∙ ap (squeezed (suc n)) e)
-    ∙ ap (sets l 0) (sym (squeezed-add i (suc n) s))

@@ -1,3 +1,4 @@
 pub mod Absorbing
+pub mod Squeezing
 pub mod Whole
 pub mod Chain

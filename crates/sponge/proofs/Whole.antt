@@ -13,12 +13,14 @@ use Rattle.encode.specs.Laws.Padding.{padded-split, padding-set, length-padding
 use Rattle.encode.specs.Laws.Lengths.{length-padded}
 use Rattle.fips202.specs.Bytes.{xorByte, xorBytes, byteAt, bytesAt}
 use Rattle.fips202.specs.Laws.Bytes.{xorBytes-set, xorBytes-zeros, bytesAt-append, length-bytesAt}
-use Rattle.blocks.specs.Blocks.{absorb}
-use Rattle.sponge.specs.Sponge.{squeeze, sponge}
+use Rattle.blocks_in.specs.Blocks.{absorb}
+use Rattle.blocks_out.specs.Blocks.{squeeze}
+use Rattle.sponge.specs.Sponge.{sponge}
 use Rattle.sponge.specs.Same.{SameSponge}
 use Rattle.sponge.specs.Running.{Running, running, fresh, absorbed, finished, squeezedByte, afterByte, squeezed, after}
 use Rattle.sponge.proofs.Absorbing.{absorbByte-in, absorbByte-last, absorbed-append, absorbed-block, absorbed-blocks}
-use Rattle.sponge.proofs.Absorbing.{refreshed-in, refreshed-out, squeezed-add, length-squeezed, squeezed-in, after-in}
+use Rattle.sponge.proofs.Absorbing.{refreshed-in, refreshed-out}
+use Rattle.sponge.proofs.Squeezing.{squeezed-add, length-squeezed, squeezed-in, after-in}
 
 -- ---- the position
 

@@ -1,18 +1,20 @@
 // The sponge with Keccak-p[1600, 24] at a rate of 136 bytes (FIPS 202, chapter 4), run piece by piece on lanes that the caller keeps, with the position of
 // the next byte in the block. A position at which the block is full, or beyond, is taken modulo 136 by the functions that put bytes in.
 ghost use mathlib.Core.Path.{_≡_};
-ghost use Prim.Native.Nat.{_%_, _<_};
+ghost use Prim.Native.Nat.{_-_, _%_, _<_};
 ghost use lib.ListN.{length, drop, replicate};
+ghost use lib.Seq.{sets};
 ghost use Rattle.encode.specs.Padding.{rate, shortfall};
 ghost use Rattle.sponge.specs.Running.{running, absorbByte, absorbed, finished, refreshed, squeezed, after};
-use blocks::absorb_blocks;
+use blocks_in::absorb_blocks;
+use blocks_out::squeeze_blocks;
 use encode::RATE;
 use keccak::permute;
 use lanes_in::xor_byte;
 use lanes_in::xor_in;
 use lanes_out::put_out;
 
-// The permutation where the block is full, or has been squeezed whole; the position after it.
+// The permutation where the block is full; the position after it.
 fn refresh(lanes: &mut [u64; 25], p: usize) -> usize
     ensures { λ r. ⌜ (running (now (lanes .exit)) r ≡ refreshed (running (now (lanes .entry)) p)) × (r < rate) ⌝ }
 {
@@ -74,18 +76,27 @@ pub fn finish(lanes: &mut [u64; 25], position: usize, suffix: u8)
     permute(lanes);
 }
 
+// `out` filled with output from `from` on, after a block that has been squeezed whole: whole blocks, and the beginning of the next one; the position after it.
+fn squeeze_from(lanes: &mut [u64; 25], out: &mut [u8], from: usize) -> usize
+    ensures { λ r. ⌜ (running (now (lanes .exit)) r ≡ after (length (now (out .entry)) - from) (running (now (lanes .entry)) rate))
+        × (now (out .exit) ≡ sets (now (out .entry)) from (squeezed (length (now (out .entry)) - from) (running (now (lanes .entry)) rate))) ⌝ }
+{
+    let at = squeeze_blocks(lanes, out, from);
+    if out.len() <= at {
+        return RATE;
+    }
+    permute(lanes);
+    put_out(out, at, lanes, 0)
+}
+
 // `out` filled with output from `position` on; the position after it.
 pub fn squeeze(lanes: &mut [u64; 25], position: usize, out: &mut [u8]) -> usize
     ensures { λ r. ⌜ (running (now (lanes .exit)) r ≡ after (length (now (out .entry))) (running (now (lanes .entry)) position))
         × (now (out .exit) ≡ squeezed (length (now (out .entry))) (running (now (lanes .entry)) position)) ⌝ }
 {
-    let mut p = position;
-    let mut i = 0;
-    while i < out.len() {
-        p = refresh(lanes, p);
-        let n = put_out(out, i, lanes, p);
-        p += n;
-        i += n;
+    let n = put_out(out, 0, lanes, position);
+    if out.len() <= n {
+        return position + n;
     }
-    p
+    squeeze_from(lanes, out, n)
 }

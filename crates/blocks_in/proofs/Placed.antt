@@ -19,7 +19,7 @@ use Rattle.in_place.specs.Rounds.{stateOf}
 use Rattle.in_place.specs.Laws.Passes.{by-places}
 use Rattle.lanes_in.specs.Words.{wordAt}
 use Rattle.lanes_in.specs.Laws.Lanes.{EachByte, word-is, lane-put, more-put}
-use Rattle.blocks.specs.Columns.{xoredAt, evensWith, oddsWith}
+use Rattle.blocks_in.specs.Columns.{xoredAt, evensWith, oddsWith}
 
 module _ (s : List ℕ) (at : ℕ) where
   -- ---- the lanes with a block, which has rate / 8 words

@@ -4,10 +4,10 @@ use mathlib.Core.List.{List}
 use Prim.Native.Nat.{ℕ}
 use native.Mathlib.Omega.{arith}
 use borrow.Author.Needs.{needs}
-use Rattle.blocks.specs.Columns.{xoredAt, evensWith, oddsWith}
-use Rattle.blocks.proofs.Placed.{block-in}
-use Rattle.blocks.proofs.xor_block.Statement.{statement}
-use Rattle.blocks.proofs.xor_block.Tie as tie
+use Rattle.blocks_in.specs.Columns.{xoredAt, evensWith, oddsWith}
+use Rattle.blocks_in.proofs.Placed.{block-in}
+use Rattle.blocks_in.proofs.xor_block.Statement.{statement}
+use Rattle.blocks_in.proofs.xor_block.Tie as tie
 
 returns : tie.Need-returns-3
 returns c =

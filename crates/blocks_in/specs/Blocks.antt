@@ -1,7 +1,7 @@
 -- Whole blocks of input (FIPS 202, chapter 4).
 use mathlib.Core.List.{List}
-use Prim.Native.Nat.{ℕ, zero, suc, _-_, _/_}
-use lib.ListN.{length, take, drop}
+use Prim.Native.Nat.{ℕ, zero, suc}
+use lib.ListN.{take, drop}
 use Rattle.fips202.specs.Fips202.{keccakP}
 use Rattle.fips202.specs.Bytes.{xorBytes}
 use Rattle.encode.specs.Padding.{rate}
@@ -10,7 +10,3 @@ use Rattle.encode.specs.Padding.{rate}
 unfoldable pub absorb : ℕ → List ℕ → List ℕ → List ℕ
 absorb zero a m = a
 absorb (suc n) a m = absorb n (keccakP (xorBytes a 0 (take rate m))) (drop rate m)
-
--- the whole blocks of s from `at` on
-abbrev pub wholeBlocks : List ℕ → ℕ → ℕ
-wholeBlocks s at = (length s - at) / rate

@@ -6,10 +6,10 @@ use native.Mathlib.Omega.{arith}
 use lib.ListN.{length, take, drop}
 use lib.Seq.{drop-drop}
 use Rattle.fips202.specs.Bytes.{xorBytes}
-use Rattle.encode.specs.Padding.{rate}
+use Rattle.encode.specs.Padding.{rate, wholeBlocks}
 use Rattle.in_place.specs.Rounds.{roundsWith, RoundConstants}
 use Rattle.in_place.specs.Laws.Turns.{permutation}
-use Rattle.blocks.specs.Blocks.{absorb, wholeBlocks}
+use Rattle.blocks_in.specs.Blocks.{absorb}
 
 module _ (s : List ℕ) (at : ℕ) where
   fewer : at + rate ≤ length s → wholeBlocks s at ≡ suc (wholeBlocks s (at + rate))

@@ -1,9 +1,9 @@
 -- The words' contracts, in the stores of the row.
 use Prim.Native.Nat.{_*_}
 use borrow.Author.Needs.{needs}
-use Rattle.blocks.proofs.Rows.{two-words, three-words}
-use Rattle.blocks.proofs.xor_row.Statement.{statement}
-use Rattle.blocks.proofs.xor_row.Tie as tie
+use Rattle.blocks_in.proofs.Rows.{two-words, three-words}
+use Rattle.blocks_in.proofs.xor_row.Statement.{statement}
+use Rattle.blocks_in.proofs.xor_row.Tie as tie
 
 returns : tie.Need-returns
 returns c =

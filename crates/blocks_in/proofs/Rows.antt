@@ -2,7 +2,7 @@
 use mathlib.Core.Path.{_≡_, ap₂}
 use mathlib.Core.List.{List}
 use Prim.Native.Nat.{ℕ, _+_}
-use Rattle.blocks.specs.Columns.{xoredAt}
+use Rattle.blocks_in.specs.Columns.{xoredAt}
 
 pub two-words : (l : List ℕ) (i v w v' w' : ℕ) → v ≡ v' → w ≡ w' → xoredAt (xoredAt l i v) (i + 1) w ≡ xoredAt (xoredAt l i v') (i + 1) w'
 two-words l i v w v' w' ev ew = ap₂ (λ (x y : ℕ). xoredAt (xoredAt l i x) (i + 1) y) ev ew

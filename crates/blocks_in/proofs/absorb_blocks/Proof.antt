@@ -3,13 +3,13 @@ use mathlib.Core.Path.{_≡_, sym, ap, ap₂, _∙_}
 use Prim.Native.Nat.{_+_, _-_, _*_, _≤_, _<_}
 use native.Mathlib.Omega.{arith}
 use lib.ListN.{length, drop}
-use Rattle.encode.specs.Padding.{rate}
+use Rattle.encode.specs.Padding.{rate, wholeBlocks}
 use Rattle.in_place.specs.Rounds.{stateOf}
 use Rattle.in_place.specs.Laws.Turns.{placed}
-use Rattle.blocks.specs.Blocks.{absorb, wholeBlocks}
-use Rattle.blocks.proofs.Blocks.{one-block, place-after, no-block, nothing-left}
-use Rattle.blocks.proofs.absorb_blocks.Statement.{statement}
-use Rattle.blocks.proofs.absorb_blocks.Tie as tie
+use Rattle.blocks_in.specs.Blocks.{absorb}
+use Rattle.blocks_in.proofs.Blocks.{one-block, place-after, no-block, nothing-left}
+use Rattle.blocks_in.proofs.absorb_blocks.Statement.{statement}
+use Rattle.blocks_in.proofs.absorb_blocks.Tie as tie
 
 abbrev Inv-loop : tie.InvT-loop
 Inv-loop lanes s from k p₀ q₀ at₀ p q at =

@@ -2,8 +2,8 @@
 use mathlib.Core.Path.{ap, _∙_}
 use borrow.Author.Needs.{needs}
 use Rattle.in_place.specs.Rounds.{roundsWith}
-use Rattle.blocks.proofs.absorb_block.Statement.{statement}
-use Rattle.blocks.proofs.absorb_block.Tie as tie
+use Rattle.blocks_in.proofs.absorb_block.Statement.{statement}
+use Rattle.blocks_in.proofs.absorb_block.Tie as tie
 
 returns : tie.Need-returns
 returns c = c .rounds .ensures ∙ ap (roundsWith 24 _) (c .before .before .before .xor-block .ensures)

@@ -1,0 +1,2 @@
+-- Whole blocks taken out of the sponge.
+pub mod Blocks
