@@ -21,6 +21,7 @@ const struct row rows[] = {
     {"cSHAKE256", CSHAKE256, {64, 4096, MOST}},
     {"KMAC256", KMAC256, {64, 4096, MOST}},
     {"KMACXOF256", KMACXOF256, {64, 4096, MOST}},
+    {"KMACXOF256, output of", OUTPUT, {4096, MOST}},
     {"session of 1 MiB, pieces of", SESSION, {64, 136, 1000, 4096, 65536}},
     {"seal", SEALING, {64, 4096, MOST}},
     {"open", OPENING, {64, 4096, MOST}},

@@ -60,6 +60,8 @@ static void kmac256(size_t size) { mac(work.key, work.custom, CUSTOM, 0, work.te
 
 static void kmacxof256(size_t size) { mac(work.key, work.custom, CUSTOM, 1, work.text, size, work.out, OUT); }
 
+static void output(size_t size) { mac(work.key, work.custom, CUSTOM, 1, work.text, MESSAGE, work.out, size); }
+
 static void session(size_t piece)
 {
     EVP_MAC_CTX *context = started(work.key, work.custom, CUSTOM, 1, OUT);
@@ -95,4 +97,4 @@ static void opening(size_t size)
         combined(work.sealed, size);
 }
 
-const struct worker openssl = {"OpenSSL", {permutation, shake256, NULL, kmac256, kmacxof256, session, sealing, opening}, 1u << PERMUTATION, NULL};
+const struct worker openssl = {"OpenSSL", {permutation, shake256, NULL, kmac256, kmacxof256, output, session, sealing, opening}, 1u << PERMUTATION, NULL};

@@ -16,6 +16,8 @@ static void kmac256(size_t size) { hf_kmac256(work.key, KEY, work.custom, CUSTOM
 
 static void kmacxof256(size_t size) { hf_kmacxof256(work.key, KEY, work.custom, CUSTOM, work.text, size, work.out, OUT); }
 
+static void output(size_t size) { hf_kmacxof256(work.key, KEY, work.custom, CUSTOM, work.text, MESSAGE, work.out, size); }
+
 static void session(size_t piece)
 {
     hf_step step = hf_session_kmacxof256(work.key, KEY, work.custom, CUSTOM);
@@ -65,6 +67,6 @@ static void hall_lookup(size_t destination_bytes)
 }
 
 const struct worker ours = {"ours",
-                            {permutation, shake256, cshake256, kmac256, kmacxof256, session, sealing, opening, drawing, plan_read, plan_lookup, hall_read,
-                             hall_lookup},
+                            {permutation, shake256, cshake256, kmac256, kmacxof256, output, session, sealing, opening, drawing, plan_read, plan_lookup,
+                             hall_read, hall_lookup},
                             0, hf_version};

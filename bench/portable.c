@@ -133,6 +133,13 @@ static void kmacxof256(size_t size)
     end_xof(&s, work.out, OUT);
 }
 
+static void output(size_t size)
+{
+    sponge s = keyed(work.key, work.custom, CUSTOM);
+    absorb(&s, work.text, MESSAGE);
+    end_xof(&s, work.out, size);
+}
+
 /* The key stream's sponge, its first bytes taken as the authentication key. */
 static sponge crypt(uint8_t *auth_key)
 {
@@ -186,6 +193,6 @@ static void drawing(size_t size)
 }
 
 const struct worker portable = {"portable C",
-                                {permutation, shake256, cshake256, kmac256, kmacxof256, session, sealing, opening, drawing, portable_plan_read,
-                                 portable_plan_lookup, portable_hall_read, portable_hall_lookup},
+                                {permutation, shake256, cshake256, kmac256, kmacxof256, output, session, sealing, opening, drawing,
+                                 portable_plan_read, portable_plan_lookup, portable_hall_read, portable_hall_lookup},
                                 0, NULL};

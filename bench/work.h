@@ -4,7 +4,7 @@
 #include <stddef.h>
 #include <stdint.h>
 
-enum { MOST = 1 << 20, BLOCK = 136, KEY = 32, IV = 16, NAME = 8, CUSTOM = 8, TAG = 32, OUT = 64, SEED_KEY = 64, PLAN_MOST = 16937 };
+enum { MOST = 1 << 20, BLOCK = 136, KEY = 32, IV = 16, NAME = 8, CUSTOM = 8, TAG = 32, MESSAGE = 64, OUT = 64, SEED_KEY = 64, PLAN_MOST = 16937 };
 
 /* All that any of them reads or writes; buffers are touched before they are measured. */
 struct work {
@@ -17,9 +17,25 @@ struct work {
 };
 extern struct work work;
 
-/* What can be done, each with a size: bytes of the message, text or output; for the permutation the runs; for a session the bytes of a piece of
-   1 MiB; for a plan the bytes of a row, for a hall plan those of a destination. */
-enum kind { PERMUTATION, SHAKE256, CSHAKE256, KMAC256, KMACXOF256, SESSION, SEALING, OPENING, DRAWING, PLAN_READ, PLAN_LOOKUP, HALL_READ, HALL_LOOKUP, KINDS };
+/* What can be done, each with a size: bytes of the message or text, for an output (of a message of MESSAGE bytes) and for a draw those of the output; for the
+   permutation the runs; for a session the bytes of a piece of 1 MiB; for a plan the bytes of a row, for a hall plan those of a destination. */
+enum kind {
+    PERMUTATION,
+    SHAKE256,
+    CSHAKE256,
+    KMAC256,
+    KMACXOF256,
+    OUTPUT,
+    SESSION,
+    SEALING,
+    OPENING,
+    DRAWING,
+    PLAN_READ,
+    PLAN_LOOKUP,
+    HALL_READ,
+    HALL_LOOKUP,
+    KINDS
+};
 
 /* One that does it; NULL where it has no such function. */
 typedef void task(size_t size);
