@@ -8,6 +8,7 @@ import sys
 from figures import BLOCK, MEBIBYTE, blocks, counts, line, ratio, times
 
 BEFORE, AFTER = range(2)
+A_BLOCK = {"SHAKE256": "an absorbed", "KMACXOF256, output of": "a squeezed"}  # what the blocks of these rows are
 HEADINGS = [
     ("", "", "before: ns", "", "after: ns", "", "before to after", "", "instructions", "", ""),
     ("what", "size", *["1 in 20", "median"] * 3, "before", "after", "ratio"),
@@ -29,8 +30,8 @@ def main(times_path, count_paths):
     for (name, size), ns in measured.items():
         instructions = [counted[name, size, worker] for worker in (BEFORE, AFTER)]
         print(line(WIDTHS, row(name, size, ns, instructions)))
-        if (name, size) == ("SHAKE256", MEBIBYTE):
-            print(line(WIDTHS, row("  of that, an absorbed block", BLOCK, ns, instructions, blocks(size))))
+        if name in A_BLOCK and size == MEBIBYTE:
+            print(line(WIDTHS, row(f"  of that, {A_BLOCK[name]} block", BLOCK, ns, instructions, blocks(size))))
 
 
 if __name__ == "__main__":

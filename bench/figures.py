@@ -2,7 +2,7 @@
 
 import re
 
-BLOCK = 136  # bytes that SHAKE256 absorbs with one permutation
+BLOCK = 136  # bytes that are absorbed, or squeezed, with one permutation
 MEBIBYTE = 1_048_576
 TWENTIETH, MEDIAN = range(2)  # of the times of turns: what one in twenty does not exceed, and what every other does not
 
@@ -28,7 +28,7 @@ def times(path):
 
 
 def blocks(size):
-    """The blocks that SHAKE256 absorbs of a message of so many bytes, the padded one included."""
+    """The blocks that SHAKE256 absorbs of a message of so many bytes, the padded one included; and those of an output of so many, if it ends inside one."""
     return size // BLOCK + 1
 
 

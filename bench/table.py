@@ -30,16 +30,19 @@ def row(key, measured, counted):
     return [name, f"{size:,}", f"{ns[OURS]:,.0f}", f"{instructions[OURS]:,}", *compared, ratio(ns[ONE_CALL], ns[OURS])]
 
 
+def a_block(counted, name):
+    """What each block more costs in a row, from our counts of its longest size and of a shorter one."""
+    long, short = (counted[name, size, OURS] for size in (MEBIBYTE, 4_096))
+    return (long - short) / (blocks(MEBIBYTE) - blocks(4_096))
+
+
 def small_sizes(counted):
     """What a block and a short call cost, from our counts: their permutations, and what is around these."""
-    long, short = (counted["SHAKE256", size, OURS] for size in (MEBIBYTE, 4_096))
-    block = (long - short) / (blocks(MEBIBYTE) - blocks(4_096))
-    more, fewer = (counted["KMACXOF256, output of", size, OURS] for size in (MEBIBYTE, 4_096))
-    squeezed = (more - fewer) / (blocks(MEBIBYTE) - blocks(4_096))
+    absorbed, squeezed = (a_block(counted, name) for name in ("SHAKE256", "KMACXOF256, output of"))
     permutation = counted["Keccak-p[1600, 24], runs", RUNS, OURS] / RUNS
     beyond = counted["KMACXOF256", 64, OURS] - KMAC_RUNS * permutation
     return [
-        f"An absorbed block takes {block:,.0f} instructions, a squeezed one {squeezed:,.0f}, a permutation {permutation:,.0f}.",
+        f"An absorbed block takes {absorbed:,.0f} instructions, a squeezed one {squeezed:,.0f}, a permutation {permutation:,.0f}.",
         f"KMACXOF256 of 64 bytes takes {beyond:,.0f} beyond its {KMAC_RUNS} permutations, {beyond / permutation / KMAC_RUNS:.1%} of them.",
     ]
 

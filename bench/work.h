@@ -17,7 +17,7 @@ struct work {
 };
 extern struct work work;
 
-/* What can be done, each with a size: bytes of the message or text, for an output (of a message of MESSAGE bytes) and for a draw those of the output; for the
+/* What can be done, each with a size: bytes of the message or text; for OUTPUT, whose message has MESSAGE bytes, and for DRAWING those of the output; for the
    permutation the runs; for a session the bytes of a piece of 1 MiB; for a plan the bytes of a row, for a hall plan those of a destination. */
 enum kind {
     PERMUTATION,

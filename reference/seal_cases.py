@@ -7,7 +7,7 @@ whole buffers, which hold A5 where a call writes nothing.
 from hash_cases import pattern
 from sealing import open_sealed, seal
 
-TEXTS = (0, 1, 31, 103, 104, 105, 136, 137, 240, 300)
+TEXTS = (0, 1, 31, 103, 104, 105, 136, 137, 239, 240, 241, 300)
 IVS = (0, 1, 16, 125, 126)
 TAGS = (15, 16, 17, 32, 64, 65)
 CUTS = (32, 31, 17, 16, 15, 0)

@@ -6,6 +6,7 @@ The totals are SHAKE256's, whose bytes are taken from hashlib: this reference wo
 
 import hashlib
 
+from fips202 import RATE
 from hash_cases import pattern
 from refusals import MESSAGE_LIMIT, OUTPUT_LIMIT
 from sessions import give, start_cshake256, start_kmacxof256, take
@@ -13,6 +14,7 @@ from sessions import give, start_cshake256, start_kmacxof256, take
 MESSAGE = pattern(3, 7, 409)
 OUTPUT = 300
 SIZES = (1, 2, 3, 7, 67, 135, 136, 137, 271, 272, 273, 408, 409)
+FIRSTS = (1, 8, 67, 128, 135, 136)
 LONG = bytes(4097)
 PART = b"\x5a" * 65536
 
@@ -71,15 +73,24 @@ def in_parts(cases, start, size):
     cases.end("session")
 
 
+def over_blocks(cases, start):
+    """In three portions, of which the second begins inside a block, or after one, and goes to the next one's end, to a byte before it and to a byte after it."""
+    for first in FIRSTS:
+        for end in (2 * RATE - 1, 2 * RATE, 2 * RATE + 1):
+            Run(cases).start(*start).take(MESSAGE).give(first).give(end - first).give(OUTPUT - end)
+    cases.end("session")
+
+
 def cuts(cases):
     starts = {"SHAKE256": ("n", b"", b""), "cSHAKE256": ("n", b"sorter", b"line 12, chute 3")}
     starts["KMACXOF256"] = ("k", b"a key of the night shift", b"line 1, chute 23")
     for name, start in starts.items():
-        cases.heading("session", f"{name}: whole, cut in two, in parts of {', '.join(map(str, SIZES))} bytes")
+        cases.heading("session", f"{name}: whole, cut in two, in parts of {', '.join(map(str, SIZES))} bytes, over blocks")
         whole(cases, start)
         in_two(cases, start)
         for size in SIZES:
             in_parts(cases, start, size)
+        over_blocks(cases, start)
 
 
 def refused(cases):

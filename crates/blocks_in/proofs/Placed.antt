@@ -79,9 +79,9 @@ module _ (s : List ℕ) (at : ℕ) where
   wordsIn zero a = a
   wordsIn (suc n) a = xoredAt (wordsIn n a) n (wordAt s (wordPlace n))
 
-  with-words : (a : List ℕ) → length a ≡ 25 → blockWith a ≡ wordsIn 17 a
+  with-words : (a : List ℕ) → length a ≡ 25 → blockWith a ≡ wordsIn (rate / 8) a
   unfolding blockWith wordsIn
-  with-words a h = subst (λ (xs : List ℕ). blockWith xs ≡ wordsIn 17 xs) (sym (written-out a h)) refl
+  with-words a h = subst (λ (xs : List ℕ). blockWith xs ≡ wordsIn (rate / 8) xs) (sym (written-out a h)) refl
 
   words-are : (n : ℕ) (a : List ℕ) → EachByte s → at + 8 * n ≤ length s → wordsIn n a ≡ xorBytes a 0 (take (8 * n) (drop at s))
   unfolding wordsIn xorBytes
@@ -106,4 +106,4 @@ module _ (s : List ℕ) (at : ℕ) where
       ∙ ap complemented (in-places (standing p q) k)
       ∙ complemented-with (lanes 0 (standing p q))
       ∙ with-words (stateOf p q) refl
-      ∙ words-are 17 (stateOf p q) b h
+      ∙ words-are (rate / 8) (stateOf p q) b h

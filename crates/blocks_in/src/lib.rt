@@ -9,6 +9,7 @@ ghost use Rattle.in_place.specs.Rounds.{stateOf, roundsWith};
 ghost use Rattle.blocks_in.specs.Blocks.{absorb};
 ghost use Rattle.blocks_in.specs.Columns.{evensWith, oddsWith};
 use encode::RATE;
+use keccak_places::all_lanes;
 use keccak_places::evens;
 use keccak_places::joined;
 use keccak_places::known;
@@ -65,11 +66,6 @@ fn absorb_block(p: &mut [u64; 15], q: &mut [u64; 10], k: &[u64; 24], s: &[u8], a
     xor_block(p, q, s, at);
     rounds(p, q, k);
 }
-
-// What the type says of the lanes, which a proof cannot read through a reference. No code is made of it.
-fn all_lanes(a: [u64; 25])
-    ensures { λ r. ⌜ length a ≡ 25 ⌝ }
-{}
 
 // The whole blocks of `s` from `from` on put in, each followed by the permutation; the place after them.
 pub fn absorb_blocks(lanes: &mut [u64; 25], s: &[u8], from: usize) -> usize

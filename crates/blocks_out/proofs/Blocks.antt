@@ -1,6 +1,6 @@
 -- One block more: what is left to squeeze after it gives what was left before it.
-use mathlib.Core.Path.{_≡_, sym, ap, ap₂, _∙_}
-use mathlib.Core.List.{List, [], _++_}
+use mathlib.Core.Path.{_≡_, sym, ap, _∙_}
+use mathlib.Core.List.{List}
 use Prim.Native.Nat.{ℕ, suc, _+_, _*_, _≤_, _<_}
 use native.Mathlib.Omega.{arith}
 use lib.ListN.{length}
@@ -9,22 +9,14 @@ use Rattle.fips202.specs.Fips202.{keccakP}
 use Rattle.fips202.specs.Bytes.{bytesAt}
 use Rattle.fips202.specs.Laws.Bytes.{length-bytesAt}
 use Rattle.encode.specs.Padding.{rate, wholeBlocks}
-use Rattle.lanes_out.specs.Laws.{sets-append}
+use Rattle.encode.specs.Laws.Lengths.{one-block-fewer, no-whole-block}
+use Rattle.stores.specs.Laws.{sets-append}
 use Rattle.in_place.specs.Rounds.{roundsWith, RoundConstants}
 use Rattle.in_place.specs.Laws.Turns.{permutation}
 use Rattle.blocks_out.specs.Blocks.{squeeze, permuted}
 
 -- s is `out` as it was lent: how many blocks it has room for hangs on its length alone
 module _ (s : List ℕ) (at : ℕ) where
-  fewer : at + rate ≤ length s → wholeBlocks s at ≡ suc (wholeBlocks s (at + rate))
-  fewer h = omega arith
-
-  none : length s < at + rate → wholeBlocks s at ≡ 0
-  none h = omega arith
-
-  pub place-after : at + rate ≤ length s → at + rate + wholeBlocks s (at + rate) * rate ≡ at + wholeBlocks s at * rate
-  place-after h = omega arith
-
   -- b stands after the permutation of a, and its block goes into l
   module _ (ks a b : List ℕ) (hk : RoundConstants ks) (h : at + rate ≤ length s) (e : b ≡ roundsWith 24 ks a) where
     next : b ≡ keccakP a
@@ -32,7 +24,7 @@ module _ (s : List ℕ) (at : ℕ) where
 
     pub lanes-after : permuted (wholeBlocks s (at + rate)) b ≡ permuted (wholeBlocks s at) a
     unfolding permuted
-    lanes-after = ap (permuted (wholeBlocks s (at + rate))) next ∙ ap (λ (k : ℕ). permuted k a) (sym (fewer h))
+    lanes-after = ap (permuted (wholeBlocks s (at + rate))) next ∙ ap (λ (k : ℕ). permuted k a) (sym (one-block-fewer s at h))
 
     pub out-after : (l : List ℕ)
         → sets (sets l at (bytesAt b 0 rate)) (at + rate) (squeeze (wholeBlocks s (at + rate)) (keccakP b)) ≡ sets l at (squeeze (wholeBlocks s at) (keccakP a))
@@ -40,18 +32,18 @@ module _ (s : List ℕ) (at : ℕ) where
     out-after l =
         let n : ℕ = wholeBlocks s (at + rate) in
         ap (λ (k : ℕ). sets (sets l at (bytesAt b 0 rate)) (at + k) (squeeze n (keccakP b))) (sym (length-bytesAt rate b 0))
-        ∙ sets-append (bytesAt b 0 rate) (squeeze n (keccakP b)) l at
+        ∙ sym (sets-append l at (bytesAt b 0 rate) (squeeze n (keccakP b)))
         ∙ ap (λ (x : List ℕ). sets l at (squeeze (suc n) x)) next
-        ∙ ap (λ (k : ℕ). sets l at (squeeze k (keccakP a))) (sym (fewer h))
+        ∙ ap (λ (k : ℕ). sets l at (squeeze k (keccakP a))) (sym (one-block-fewer s at h))
 
   -- no block is left
   pub lanes-stay : (a : List ℕ) → length s < at + rate → permuted (wholeBlocks s at) a ≡ a
   unfolding permuted
-  lanes-stay a h = ap (λ (k : ℕ). permuted k a) (none h)
+  lanes-stay a h = ap (λ (k : ℕ). permuted k a) (no-whole-block s at h)
 
   pub out-stays : (l a : List ℕ) → length s < at + rate → sets l at (squeeze (wholeBlocks s at) a) ≡ l
   unfolding squeeze
-  out-stays l a h = ap (λ (k : ℕ). sets l at (squeeze k a)) (none h)
+  out-stays l a h = ap (λ (k : ℕ). sets l at (squeeze k a)) (no-whole-block s at h)
 
   pub no-block : (a : List ℕ) → length s < at + rate
       → (at ≡ at + wholeBlocks s at * rate) × (a ≡ permuted (wholeBlocks s at) a) × (s ≡ sets s at (squeeze (wholeBlocks s at) (keccakP a)))

@@ -2,23 +2,18 @@
 // for all blocks, and the round constants are bound once.
 ghost use mathlib.Core.Path.{_≡_};
 ghost use Prim.Native.Nat.{_+_, _*_};
-ghost use lib.ListN.{length};
 ghost use lib.Seq.{sets};
 ghost use Rattle.fips202.specs.Fips202.{keccakP};
 ghost use Rattle.encode.specs.Padding.{rate, wholeBlocks};
 ghost use Rattle.blocks_out.specs.Blocks.{squeeze, permuted};
 use encode::RATE;
+use keccak_places::all_lanes;
 use keccak_places::evens;
 use keccak_places::joined;
 use keccak_places::odds;
 use keccak_rounds::constants;
 use keccak_rounds::rounds;
 use lanes_out::put_out;
-
-// What the type says of the lanes, which a proof cannot read through a reference. No code is made of it.
-fn all_lanes(a: [u64; 25])
-    ensures { λ r. ⌜ length a ≡ 25 ⌝ }
-{}
 
 // The whole blocks that `out` has room for from `from` on filled, each after a permutation; the place after them.
 pub fn squeeze_blocks(lanes: &mut [u64; 25], out: &mut [u8], from: usize) -> usize

@@ -2,6 +2,7 @@
 // is not inlined keeps the order of its reads and writes of two arrays, so that a row's lanes stay in registers and no others do. Lanes 1, 2, 8, 12, 17 and
 // 20 are held inverted.
 ghost use mathlib.Core.Path.{_≡_};
+ghost use lib.ListN.{length};
 ghost use Rattle.in_place.specs.Complemented.{complemented};
 ghost use Rattle.in_place.specs.Places.{standing, Known, lanes, evenColumns, oddColumns};
 
@@ -81,7 +82,11 @@ pub fn joined(p: [u64; 15], q: [u64; 10]) -> [u64; 25]
     ]
 }
 
-// What the types say of the two arrays, which a proof cannot read through a reference. No code is made of it.
+// What the types say of the lanes and of the two arrays, which a proof cannot read through a reference. No code is made of either.
+pub fn all_lanes(a: [u64; 25])
+    ensures { λ r. ⌜ length a ≡ 25 ⌝ }
+{}
+
 pub fn known(p: [u64; 15], q: [u64; 10])
     ensures { λ r. ⌜ Known (standing p q) ⌝ }
 {}

@@ -11,7 +11,7 @@ use Rattle.fips202.specs.Bytes.{byteAt, bytesAt}
 use Rattle.fips202.specs.Laws.Bytes.{bytesAt-append, length-bytesAt}
 use Rattle.encode.specs.Digits.{digits}
 use Rattle.encode.specs.Laws.Digits.{length-digits}
-use Rattle.lanes_out.specs.Laws.{sets-append}
+use Rattle.stores.specs.Laws.{sets-append}
 
 -- ---- eight bytes of a lane
 
@@ -49,7 +49,7 @@ digits-append (suc n) m v =
 sets-split : (n m v at : ℕ) (l : List ℕ) → sets (sets l at (digits 256 n v)) (at + n) (digits 256 m (v / 2 ^ (8 * n))) ≡ sets l at (digits 256 (n + m) v)
 sets-split n m v at l =
     ap (λ (k : ℕ). sets (sets l at (digits 256 n v)) (at + k) (digits 256 m (v / 2 ^ (8 * n)))) (sym (length-digits 256 n v))
-    ∙ sets-append (digits 256 n v) (digits 256 m (v / 2 ^ (8 * n))) l at
+    ∙ sym (sets-append l at (digits 256 n v) (digits 256 m (v / 2 ^ (8 * n))))
     ∙ ap (sets l at) (sym (digits-append n m v))
 
 -- the same, of two stores that follow each other
@@ -62,7 +62,7 @@ both-stored n m v at l p q hp hq = hq ∙ ap (λ (x : List ℕ). sets x (at + n)
 pub more-put : (l a : List ℕ) (at p i m : ℕ) → sets (sets l at (bytesAt a p i)) (at + i) (bytesAt a (p + i) m) ≡ sets l at (bytesAt a p (i + m))
 more-put l a at p i m =
     ap (λ (k : ℕ). sets (sets l at (bytesAt a p i)) (at + k) (bytesAt a (p + i) m)) (sym (length-bytesAt i a p))
-    ∙ sets-append (bytesAt a p i) (bytesAt a (p + i) m) l at
+    ∙ sym (sets-append l at (bytesAt a p i) (bytesAt a (p + i) m))
     ∙ ap (sets l at) (sym (bytesAt-append i m a p))
 
 -- the same, of two calls that follow each other, up to n bytes

@@ -109,7 +109,11 @@ unfolding keptRow
 keeping-row c i d r (rows l) = let e : i + suc (length l) ≡ i + 1 + length l = omega arith in rw e
 keeping-row c i d r (refused n place) = refl
 
-module _ (c i at n : ℕ) (d : Row) (s : List ℕ) where
+-- a loop over n rows of s: i are read, the next starts at the place `at`, and the chute's row starts where `kept` says
+module _ (c i at n kept : ℕ) (s : List ℕ) where
+  abbrev d : Row
+  d = rowThere kept s
+
   -- a turn that reads a row
   keeping-more : (r : Row) → i < n → rowAnswer at (planNumber at (drop at s)) ≡ Found r
       → keeping c i d (rowsFrom (n - i) at (drop at s)) ≡ keeping c (i + 1) (cond (eqb (i + 1) c) r d) (rowsFrom (n - (i + 1)) (r .end) (drop (r .end) s))

@@ -1,7 +1,7 @@
 -- From the sponge's runs of the two calls to the construction's key stream and tag, for lengths that are accepted.
 use mathlib.Core.Path.{_≡_, refl, sym, ap, _∙_}
 use mathlib.Core.List.{List, [], _++_}
-use Prim.Native.Nat.{ℕ, _+_, _/_, _≤_}
+use Prim.Native.Nat.{ℕ, _+_, _≤_}
 use native.Mathlib.Omega.{arith}
 use mir.Syntax.{w64}
 use mir.Val.{Fits}
@@ -12,7 +12,7 @@ use Rattle.encode.specs.Encode.{bigEndian, rightEncode}
 use Rattle.calls.specs.Limits.{maxKey, maxCustomisation, maxMessage}
 use Rattle.calls.specs.Start.{keyed, startRefusal}
 use Rattle.calls.specs.Call.{KMACXOF256, kmacxof256, fed, ending}
-use Rattle.calls.specs.Count.{outputRuns, runs}
+use Rattle.calls.specs.Count.{runs}
 use Rattle.calls.specs.Laws.Runs.{runs-by-lengths}
 use Rattle.sponge.specs.Sponge.{sponge}
 use Rattle.sponge.specs.Running.{Running, running, finished, squeezed, after}

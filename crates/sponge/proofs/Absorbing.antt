@@ -1,9 +1,8 @@
--- Laws of the sponge a byte at a time: input in pieces of any size, and the block that is full.
+-- Laws of the sponge a byte at a time: input in pieces of any size.
 use mathlib.Core.Path.{_≡_, refl, sym, ap, ap₂, _∙_}
 use mathlib.Core.List.{List, [], _∷_, _++_}
 use Prim.Native.Nat.{ℕ, zero, suc, _+_, _-_, _*_, _≤_, _<_, min}
 use native.Mathlib.Nat.{add-zero}
-use native.Mathlib.Decide.{decLe}
 use native.Mathlib.Omega.{arith}
 use lib.ListN.{length, take, drop, take-append-drop, length-take, length-drop}
 use lib.Seq.{take-add, take-all, drop-drop}
@@ -12,9 +11,7 @@ use Rattle.fips202.specs.Fips202.{keccakP}
 use Rattle.fips202.specs.Bytes.{xorByte, xorBytes}
 use Rattle.encode.specs.Padding.{rate, wholeBlocks}
 use Rattle.blocks_in.specs.Blocks.{absorb}
-use Rattle.sponge.specs.Running.{Running, running, absorbByte, absorbed, refreshed}
-
--- ---- absorbing
+use Rattle.sponge.specs.Running.{Running, running, absorbByte, absorbed}
 
 pub absorbByte-in : (a : List ℕ) (p b : ℕ) → p < rate - 1 → absorbByte (running a p) b ≡ running (xorByte a p b) (p + 1)
 unfolding absorbByte
@@ -96,25 +93,3 @@ absorbed-filled l a b p n hp en eb h =
     ∙ absorbed-append (running a p) (take n l) (drop n l)
     ∙ ap (λ (s : Running). absorbed s (drop n l))
     (absorbed-block (take n l) a p hp (simp length-take (omega arith)) ∙ ap (λ (x : List ℕ). running (keccakP x) 0) (sym eb)))
-
--- ---- a block that is full, or has been squeezed whole
-
-pub refreshed-in : (a : List ℕ) (p : ℕ) → p < rate → refreshed (running a p) ≡ running a p
-unfolding refreshed
-refreshed-in a p h = rw (lt-ltb p rate h)
-
-pub refreshed-out : (a : List ℕ) (p : ℕ) → rate ≤ p → refreshed (running a p) ≡ running (keccakP a) 0
-unfolding refreshed
-refreshed-out a p h = rw (le-ltb p rate h)
-
--- bytes that the block has room for: put in, and permuted where they fill it
-absorbed-refreshed : (bs a : List ℕ) (p : ℕ) → p < rate → p + length bs ≤ rate
-    → absorbed (running a p) bs ≡ refreshed (running (xorBytes a p bs) (p + length bs))
-absorbed-refreshed bs a p h k = elim (decLe rate (p + length bs)) [
-  | yes full ↦ absorbed-block bs a p h (omega arith) ∙ sym (refreshed-out (xorBytes a p bs) (p + length bs) full)
-  | no room ↦ absorbed-in bs a p (omega arith) ∙ sym (refreshed-in (xorBytes a p bs) (p + length bs) (omega arith))
-]
-
-pub absorbByte-refreshed : (a : List ℕ) (p b : ℕ) → p < rate → refreshed (running (xorByte a p b) (p + 1)) ≡ absorbByte (running a p) b
-unfolding absorbed xorBytes
-absorbByte-refreshed a p b h = sym (absorbed-refreshed (b ∷ []) a p h (omega arith))

@@ -11,16 +11,15 @@ use Rattle.fips202.specs.Fips202.{keccakP}
 use Rattle.encode.specs.Padding.{rate, blocks, padding, padded}
 use Rattle.encode.specs.Laws.Padding.{padded-split, padding-set, length-padding}
 use Rattle.encode.specs.Laws.Lengths.{length-padded}
-use Rattle.fips202.specs.Bytes.{xorByte, xorBytes, byteAt, bytesAt}
+use Rattle.fips202.specs.Bytes.{xorByte, xorBytes, bytesAt}
 use Rattle.fips202.specs.Laws.Bytes.{xorBytes-set, xorBytes-zeros, bytesAt-append, length-bytesAt}
 use Rattle.blocks_in.specs.Blocks.{absorb}
 use Rattle.blocks_out.specs.Blocks.{squeeze}
 use Rattle.sponge.specs.Sponge.{sponge}
 use Rattle.sponge.specs.Same.{SameSponge}
-use Rattle.sponge.specs.Running.{Running, running, fresh, absorbed, finished, squeezedByte, afterByte, squeezed, after}
+use Rattle.sponge.specs.Running.{Running, running, fresh, absorbed, finished, squeezed, after}
 use Rattle.sponge.proofs.Absorbing.{absorbByte-in, absorbByte-last, absorbed-append, absorbed-block, absorbed-blocks}
-use Rattle.sponge.proofs.Absorbing.{refreshed-in, refreshed-out}
-use Rattle.sponge.proofs.Squeezing.{squeezed-add, length-squeezed, squeezed-in, after-in}
+use Rattle.sponge.proofs.Squeezing.{squeezed-add, length-squeezed, squeezed-in, after-in, squeezed-next}
 
 -- ---- the position
 
@@ -38,13 +37,13 @@ absorbed-position (b ∷ bs) a p h = elim (decLe (rate - 1) p) [
 
 -- ---- the end of the input
 
-xor-padding : (suffix : ℕ) (a : List ℕ) (p : ℕ) → p < rate → xorBytes a p (padding suffix (rate - p)) ≡ xorByte (xorByte a p suffix) (rate - 1) 128
+xor-padding : (suffix : ℕ) (a : List ℕ) (p : ℕ) → p < rate → xorBytes a p (padding suffix (rate - p)) ≡ xorByte (xorByte a p suffix) (rate - 1) 0x80
 unfolding xorBytes
 xor-padding suffix a p h =
     ap (xorBytes a p) (padding-set suffix (rate - p))
-    ∙ xorBytes-set (suffix ∷ replicate (rate - p - 1) 0) a p (rate - p - 1) 128 (omega (arith, length-replicate {A = ℕ} (rate - p - 1) 0))
-    ∙ ap (λ (r : List ℕ). xorByte r (p + (rate - p - 1)) 128) (xorBytes-zeros (rate - p - 1) (xorByte a p suffix) (p + 1))
-    ∙ ap (λ (k : ℕ). xorByte (xorByte a p suffix) k 128) (omega arith)
+    ∙ xorBytes-set (suffix ∷ replicate (rate - p - 1) 0) a p (rate - p - 1) 0x80 (omega (arith, length-replicate {A = ℕ} (rate - p - 1) 0))
+    ∙ ap (λ (r : List ℕ). xorByte r (p + (rate - p - 1)) 0x80) (xorBytes-zeros (rate - p - 1) (xorByte a p suffix) (p + 1))
+    ∙ ap (λ (k : ℕ). xorByte (xorByte a p suffix) k 0x80) (omega arith)
 
 pub absorbed-padding : (suffix : ℕ) (a : List ℕ) (p : ℕ) → p < rate → absorbed (running a p) (padding suffix (rate - p)) ≡ finished suffix (running a p)
 unfolding finished
@@ -70,14 +69,6 @@ absorbed-whole suffix m =
 
 -- ---- the output
 
--- a block that was squeezed whole is followed by the next one
-squeezed-afterByte : (m : ℕ) (a : List ℕ) → squeezed m (running a rate) ≡ squeezed m (running (keccakP a) 0)
-unfolding squeezed squeezedByte afterByte
-squeezed-afterByte zero a = refl
-squeezed-afterByte (suc m) a =
-    ap (λ (t : Running). byteAt (t .lanes) (t .position) ∷ squeezed m (running (t .lanes) (t .position + 1)))
-    (refreshed-out a rate (omega arith) ∙ sym (refreshed-in (keccakP a) 0 (omega arith)))
-
 take-bytesAt : (n k : ℕ) (a : List ℕ) (p : ℕ) → take n (bytesAt a p (n + k)) ≡ bytesAt a p n
 take-bytesAt n k a p =
     ap (take n) (bytesAt-append n k a p)
@@ -102,7 +93,9 @@ squeezed-squeeze (suc k) a n h = elim (decLe n rate) [
       ap (λ (x : ℕ). squeezed x (running a 0)) e
       ∙ squeezed-add rate (n - rate) (running a 0)
       ∙ ap₂ (λ (x y : List ℕ). x ++ y) (squeezed-in rate a 0 (omega arith))
-      (ap (squeezed (n - rate)) (after-in rate a 0 (omega arith)) ∙ squeezed-afterByte (n - rate) a ∙ squeezed-squeeze k (keccakP a) (n - rate) (omega arith))
+      (ap (squeezed (n - rate)) (after-in rate a 0 (omega arith))
+      ∙ squeezed-next (n - rate) a rate (omega arith)
+      ∙ squeezed-squeeze k (keccakP a) (n - rate) (omega arith))
       ∙ sym (take-append-add (bytesAt a 0 rate) (squeeze k (keccakP a)) (n - rate))
       ∙ ap (λ (x : ℕ). take x (bytesAt a 0 rate ++ squeeze k (keccakP a))) (ap (λ (x : ℕ). x + (n - rate)) (length-bytesAt rate a 0) ∙ sym e)
 ]

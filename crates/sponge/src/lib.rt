@@ -5,7 +5,7 @@ ghost use Prim.Native.Nat.{_-_, _%_, _<_};
 ghost use lib.ListN.{length, drop, replicate};
 ghost use lib.Seq.{sets};
 ghost use Rattle.encode.specs.Padding.{rate, shortfall};
-ghost use Rattle.sponge.specs.Running.{running, absorbByte, absorbed, finished, refreshed, squeezed, after};
+ghost use Rattle.sponge.specs.Running.{running, absorbByte, absorbed, finished, squeezed, after};
 use blocks_in::absorb_blocks;
 use blocks_out::squeeze_blocks;
 use encode::RATE;
@@ -13,17 +13,6 @@ use keccak::permute;
 use lanes_in::xor_byte;
 use lanes_in::xor_in;
 use lanes_out::put_out;
-
-// The permutation where the block is full; the position after it.
-fn refresh(lanes: &mut [u64; 25], p: usize) -> usize
-    ensures { λ r. ⌜ (running (now (lanes .exit)) r ≡ refreshed (running (now (lanes .entry)) p)) × (r < rate) ⌝ }
-{
-    if p < RATE {
-        return p;
-    }
-    permute(lanes);
-    0
-}
 
 // The piece from `from` on, where a block begins: its whole blocks, and the beginning of the next one; the position after it.
 fn absorb_from(lanes: &mut [u64; 25], piece: &[u8], from: usize) -> usize
@@ -54,7 +43,12 @@ pub fn absorb_byte(lanes: &mut [u64; 25], position: usize, b: u8) -> usize
     ensures { λ r. ⌜ (running (now (lanes .exit)) r ≡ absorbByte (running (now (lanes .entry)) (position % rate)) b) × (r < rate) ⌝ }
 {
     xor_byte(lanes, position, b);
-    refresh(lanes, position % RATE + 1)
+    let p = position % RATE + 1;
+    if p < RATE {
+        return p;
+    }
+    permute(lanes);
+    0
 }
 
 // Zeros put in to the end of the block that has begun, as bytepad asks: they change no byte.

@@ -1,13 +1,14 @@
 -- The invariant: what is left to absorb gives the answer. A turn absorbs one block (`Blocks.one-block`).
-use mathlib.Core.Path.{_≡_, sym, ap, ap₂, _∙_}
+use mathlib.Core.Path.{_≡_, sym, ap, _∙_}
 use Prim.Native.Nat.{_+_, _-_, _*_, _≤_, _<_}
 use native.Mathlib.Omega.{arith}
 use lib.ListN.{length, drop}
 use Rattle.encode.specs.Padding.{rate, wholeBlocks}
+use Rattle.encode.specs.Laws.Lengths.{same-end}
 use Rattle.in_place.specs.Rounds.{stateOf}
 use Rattle.in_place.specs.Laws.Turns.{placed}
 use Rattle.blocks_in.specs.Blocks.{absorb}
-use Rattle.blocks_in.proofs.Blocks.{one-block, place-after, no-block, nothing-left}
+use Rattle.blocks_in.proofs.Blocks.{one-block, no-block, nothing-left}
 use Rattle.blocks_in.proofs.absorb_blocks.Statement.{statement}
 use Rattle.blocks_in.proofs.absorb_blocks.Tie as tie
 
@@ -44,10 +45,10 @@ first-block c =
     let k = bound c .constants in
     let a = start c .args in (
       omega arith,
-      place-after (a .s .now) (a .from) (omega arith),
+      same-end (a .s .now) (a .from) (omega arith),
       one-block (a .s .now) (a .from) (k .result) _ _ (k .ensures) (omega arith) (c .absorb-block .ensures)
           ∙ ap (λ l. absorb (wholeBlocks (a .s .now) (a .from)) l (drop (a .from) (a .s .now)))
-          (ap₂ stateOf (ce .evens .ensures) (co .odds .ensures) ∙ placed (a .lanes .now) (cl .all-lanes .ensures)),
+          (placed (a .lanes .now) (ce .evens .result) (co .odds .result) (ce .evens .ensures) (co .odds .ensures) (cl .all-lanes .ensures)),
     )
 
 next-block : tie.Need-loop-again Inv-loop μ-loop
@@ -57,7 +58,7 @@ next-block c =
     let k = bound (turn .before) .constants in
     let s = start (turn .before) .args .s .now in (
       omega arith,
-      place-after s (l .at) (omega arith) ∙ l .inv .1,
+      same-end s (l .at) (omega arith) ∙ l .inv .1,
       one-block s (l .at) (k .result) (stateOf (l .p) (l .q)) _ (k .ensures) (omega arith) (c .absorb-block2 .ensures) ∙ l .inv .2,
     )
 

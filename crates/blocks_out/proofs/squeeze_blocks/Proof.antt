@@ -1,5 +1,5 @@
 -- The invariant: what is left to squeeze gives the answer. A turn squeezes one block (`Blocks.lanes-after`, `Blocks.out-after`).
-use mathlib.Core.Path.{_≡_, refl, sym, ap, ap₂, _∙_}
+use mathlib.Core.Path.{_≡_, refl, sym, ap, _∙_}
 use mathlib.Core.List.{List}
 use Prim.Native.Nat.{ℕ, _+_, _-_, _*_, _≤_, _<_}
 use native.Mathlib.Omega.{arith}
@@ -8,10 +8,11 @@ use lib.Seq.{sets}
 use Rattle.fips202.specs.Fips202.{keccakP}
 use Rattle.fips202.specs.Bytes.{bytesAt}
 use Rattle.encode.specs.Padding.{rate, wholeBlocks}
+use Rattle.encode.specs.Laws.Lengths.{same-end}
 use Rattle.in_place.specs.Rounds.{stateOf}
 use Rattle.in_place.specs.Laws.Turns.{placed}
 use Rattle.blocks_out.specs.Blocks.{squeeze, permuted}
-use Rattle.blocks_out.proofs.Blocks.{place-after, lanes-after, out-after, lanes-stay, out-stays, no-block}
+use Rattle.blocks_out.proofs.Blocks.{lanes-after, out-after, lanes-stay, out-stays, no-block}
 use Rattle.blocks_out.proofs.squeeze_blocks.Statement.{statement}
 use Rattle.blocks_out.proofs.squeeze_blocks.Tie as tie
 
@@ -47,7 +48,7 @@ loop-holds c =
     let cl = ce .before .before in
     let a = start c .args in
     let e : stateOf (ce .evens .result) (c .odds .result) ≡ a .lanes .now
-    = ap₂ stateOf (ce .evens .ensures) (c .odds .ensures) ∙ placed (a .lanes .now) (cl .all-lanes .ensures) in (
+    = placed (a .lanes .now) (ce .evens .result) (c .odds .result) (ce .evens .ensures) (c .odds .ensures) (cl .all-lanes .ensures) in (
       omega arith,
       refl,
       refl,
@@ -70,7 +71,7 @@ loop-again c =
     let e : n ≡ rate = omega arith in (
       omega arith,
       put .put-out .kept .0 ∙ l .inv .1,
-      ap (λ (m : ℕ). l .at + m + wholeBlocks s (l .at + m) * rate) e ∙ place-after s (l .at) h ∙ l .inv .2,
+      ap (λ (m : ℕ). l .at + m + wholeBlocks s (l .at + m) * rate) e ∙ same-end s (l .at) h ∙ l .inv .2,
       ap (λ (m : ℕ). permuted (wholeBlocks s (l .at + m)) b) e
           ∙ lanes-after s (l .at) (k .result) (stateOf (l .p) (l .q)) b (k .ensures) h (permuting .rounds .ensures)
           ∙ l .inv .3,

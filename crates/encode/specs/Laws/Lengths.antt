@@ -1,11 +1,11 @@
--- Laws on lengths: of the encodings, of bytepad and of padded bytes, in blocks.
+-- Laws on lengths: of the encodings, of bytepad and of padded bytes, in blocks; and the whole blocks of a list from a place on.
 use mathlib.Core.Path.{_≡_, _∙_}
 use mathlib.Core.List.{List, _++_}
-use Prim.Native.Nat.{ℕ, _+_, _*_, _/_, _%_}
+use Prim.Native.Nat.{ℕ, suc, _+_, _*_, _/_, _%_, _≤_, _<_}
 use native.Mathlib.Omega.{arith}
 use lib.ListN.{length, length-append, length-replicate, length-set, length-reverse}
 use Rattle.encode.specs.Digits.{digits, widthIn, width}
-use Rattle.encode.specs.Padding.{rate, blocks, padTo, withLastBit, padded}
+use Rattle.encode.specs.Padding.{rate, blocks, wholeBlocks, padTo, withLastBit, padded}
 use Rattle.encode.specs.Encode.{bigEndian, leftEncode, rightEncode, encodeString, bytepad}
 use Rattle.encode.specs.Laws.Digits.{length-digits}
 
@@ -43,3 +43,15 @@ bytepad-blocks x = rw length-bytepad (omega arith)
 pub length-padded : (s : ℕ) (m : List ℕ) → length (padded s m) ≡ (length m / rate + 1) * rate
 unfolding padded withLastBit
 length-padded s m = simp (length-set, length-padTo, length-append) (omega arith)
+
+-- ---- the whole blocks of a list from a place on
+
+module _ (s : List ℕ) (at : ℕ) where
+  pub one-block-fewer : at + rate ≤ length s → wholeBlocks s at ≡ suc (wholeBlocks s (at + rate))
+  one-block-fewer h = omega arith
+
+  pub same-end : at + rate ≤ length s → at + rate + wholeBlocks s (at + rate) * rate ≡ at + wholeBlocks s at * rate
+  same-end h = omega arith
+
+  pub no-whole-block : length s < at + rate → wholeBlocks s at ≡ 0
+  no-whole-block h = omega arith

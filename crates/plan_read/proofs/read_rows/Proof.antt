@@ -1,4 +1,5 @@
 -- What the lookup keeps of the rows read, with the rows to come, makes the answer: a turn that reads a row keeps this, any other ends the reading.
+-- It keeps where the chute's row starts, or the plan's end, where none stands (`Rows.keeping-start`): what is read there at the end is the row kept.
 -- After the last row the answer hangs on whether bytes are left.
 use mathlib.Core.Path.{_≡_, sym, ap, _∙_}
 use Prim.Native.Nat.{ℕ, _≤_, _-_}
@@ -63,7 +64,7 @@ returns c =
     let a = start (turn r) .args in
     let other = m .enum-told .given in
     c .malformed .ensures ∙ ap (Refused malformedPlan) (c .before .place-of .ensures ∙ ap (λ (q : RowRead). rowValues q .place) (other .1))
-    ∙ sym (keeping-bad (a .chute) (l .i) (l .at) (a .count) (rowThere (l .kept) (now (a .plan))) (now (a .plan)) (other .0 .0) (r .before .loop-test .taken)
+    ∙ sym (keeping-bad (a .chute) (l .i) (l .at) (a .count) (l .kept) (now (a .plan)) (other .0 .0) (r .before .loop-test .taken)
     (sym (r .row-at .ensures .answer) ∙ other .1))
     ∙ l .inv .1
 
@@ -84,7 +85,7 @@ loop-again c =
     let a = start (turn r) .args in
     let got = w .before .before .read .given in (
       omega (arith, r .before .loop-test .taken),
-      sym (keeping-new (a .chute) (l .i) (l .at) (a .count) (rowThere (l .kept) (now (a .plan))) (now (a .plan)) (got .0 .0) (r .before .loop-test .taken)
+      sym (keeping-new (a .chute) (l .i) (l .at) (a .count) (l .kept) (now (a .plan)) (got .0 .0) (r .before .loop-test .taken)
           (sym (r .row-at .ensures .answer) ∙ got .1)
           (sym (w .wide .ensures) ∙ c .if1 .taken))
           ∙ l .inv .1,
@@ -101,7 +102,7 @@ loop-again-2 c =
     let a = start (turn r) .args in
     let got = w .before .before .read .given in (
       omega (arith, r .before .loop-test .taken),
-      sym (keeping-old (a .chute) (l .i) (l .at) (a .count) (rowThere (l .kept) (now (a .plan))) (now (a .plan)) (got .0 .0) (r .before .loop-test .taken)
+      sym (keeping-old (a .chute) (l .i) (l .at) (a .count) (l .kept) (now (a .plan)) (got .0 .0) (r .before .loop-test .taken)
           (sym (r .row-at .ensures .answer) ∙ got .1)
           (λ e. c .if1 .left (w .wide .ensures ∙ e)))
           ∙ l .inv .1,
@@ -116,7 +117,7 @@ returns-2 c =
     let l = past .before .loop in
     let a = start (past .before) .args in
     c .malformed2 .ensures
-    ∙ sym (keeping-over (a .chute) (l .i) (l .at) (a .count) (rowThere (l .kept) (now (a .plan))) (now (a .plan)) (past .loop-test .left) (c .before .if2 .taken))
+    ∙ sym (keeping-over (a .chute) (l .i) (l .at) (a .count) (l .kept) (now (a .plan)) (past .loop-test .left) (c .before .if2 .taken))
     ∙ l .inv .1
 
 row-at-requires-2 : tie.Need-row-at-requires-2 Inv-loop μ-loop
@@ -134,7 +135,7 @@ returns-3 c =
     let e : a .count ≡ l .i = omega (arith, l .inv .0, past .loop-test .left) in
     ap (Rows (a .count)) (c .row-of .ensures ∙ ap (λ (v : RowValues). v .found) (again .row-at2 .ensures .values))
     ∙ ap (λ (n : ℕ). Rows n (rowThere (l .kept) (now (a .plan)))) e
-    ∙ sym (keeping-done (a .chute) (l .i) (l .at) (a .count) (rowThere (l .kept) (now (a .plan))) (now (a .plan)) (past .loop-test .left) (again .before .if2 .left))
+    ∙ sym (keeping-done (a .chute) (l .i) (l .at) (a .count) (l .kept) (now (a .plan)) (past .loop-test .left) (again .before .if2 .left))
     ∙ l .inv .1
 
 pub read-rows-spec : {M : Type 1} → statement M

@@ -1,7 +1,7 @@
--- What is left of the block, and the rest (`Squeezing.within-block`, `Squeezing.past-block`).
+-- The rest of the block that has begun, then what comes after it (`Squeezing.squeezed-begun`, `Squeezing.squeezed-past`).
 use native.Mathlib.Omega.{arith}
 use borrow.Author.Needs.{needs}
-use Rattle.sponge.proofs.Squeezing.{within-block, past-block}
+use Rattle.sponge.proofs.Squeezing.{squeezed-begun, squeezed-past}
 use Rattle.sponge.proofs.squeeze.Statement.{statement}
 use Rattle.sponge.proofs.squeeze.Tie as tie
 
@@ -13,7 +13,7 @@ returns c =
     let put = c .before .before .before in
     let a = start put .args in
     let e = put .put-out .ensures in
-    within-block (a .out .now) (a .lanes .now) (put .put-out .last .0) (a .position) (put .put-out .result) (e .0) (e .1) (omega arith)
+    squeezed-begun (a .out .now) (a .lanes .now) (put .put-out .last .0) (a .position) (put .put-out .result) (e .0) (e .1) (omega arith)
 
 returns-2 : tie.Need-returns-2
 returns-2 c =
@@ -22,7 +22,7 @@ returns-2 c =
     let a = start put .args in
     let p = put .put-out in
     let r = rest .squeeze-from in
-    past-block (a .out .now) (a .lanes .now) (p .last .0) (a .position) (p .result) (p .ensures .0) (p .ensures .1)
+    squeezed-past (a .out .now) (a .lanes .now) (p .last .0) (a .position) (p .result) (p .ensures .0) (p .ensures .1)
     (r .last .0) (r .last .1 .0) (r .result) (omega arith) (p .kept .0) (r .ensures .0) (r .ensures .1)
 
 pub squeeze-spec : {M : Type 1} → statement M

@@ -1,8 +1,8 @@
--- Whole blocks, and the bytes left over (`Squeezing.to-block-end`, `Squeezing.past-blocks`).
+-- Whole blocks, and the bytes left over (`Squeezing.squeezed-to-end`, `Squeezing.squeezed-from`).
 use native.Mathlib.Omega.{arith}
 use borrow.Author.Needs.{needs}
 use Rattle.encode.specs.Padding.{wholeBlocks}
-use Rattle.sponge.proofs.Squeezing.{to-block-end, past-blocks}
+use Rattle.sponge.proofs.Squeezing.{squeezed-to-end, squeezed-from}
 use Rattle.sponge.proofs.squeeze_from.Statement.{statement}
 use Rattle.sponge.proofs.squeeze_from.Tie as tie
 
@@ -14,7 +14,7 @@ returns c =
     let blocks = c .before .before .before in
     let a = start blocks .args in
     let b = blocks .squeeze-blocks in
-    to-block-end (a .out .now) (a .lanes .now) (b .last .0) (b .last .1 .0) (a .from) (wholeBlocks (a .out .now) (a .from)) (b .result)
+    squeezed-to-end (a .out .now) (a .lanes .now) (b .last .0) (b .last .1 .0) (a .from) (wholeBlocks (a .out .now) (a .from)) (b .result)
     (b .ensures .0) (b .ensures .1) (b .ensures .2) (omega arith) (omega arith)
 
 returns-2 : tie.Need-returns-2
@@ -25,7 +25,7 @@ returns-2 c =
     let a = start blocks .args in
     let b = blocks .squeeze-blocks in
     let l = put .put-out in
-    past-blocks (a .out .now) (a .lanes .now) (b .last .0) (b .last .1 .0) (a .from) (wholeBlocks (a .out .now) (a .from)) (b .result)
+    squeezed-from (a .out .now) (a .lanes .now) (b .last .0) (b .last .1 .0) (a .from) (wholeBlocks (a .out .now) (a .from)) (b .result)
     (b .ensures .0) (b .ensures .1) (b .ensures .2)
     (permuting .permute .last .0) (l .last .0) (l .result) (omega arith) (omega arith) (omega arith) (permuting .permute .ensures) (l .ensures .1)
 

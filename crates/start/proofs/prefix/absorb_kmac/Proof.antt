@@ -10,6 +10,7 @@ use Rattle.encode.specs.Digits.{numberOf}
 use Rattle.encode.specs.Encode.{leftEncode, encodeString, KMAC}
 use Rattle.encode.specs.Answer.{codeOf}
 use Rattle.encode.specs.Laws.Lengths.{length-encodeString, length-leftEncode}
+use Rattle.encode.specs.Padding.{rate}
 use Rattle.start.proofs.Strings.{headed-absorbed, kmac-length, kmac-absorbed, joined-strings, padded-lanes, padded-blocks}
 use Rattle.start.proofs.prefix.absorb_kmac.Statement.{statement}
 use Rattle.start.proofs.prefix.absorb_kmac.Tie as tie
@@ -39,7 +40,7 @@ returns c =
     headed-absorbed (name .last .0) (length-put .last .0) (put .last .0) [] s 1 (code .result .number) n (put .result) (search needs) (omega arith)
     (omega (arith, len, code .ensures .2)) (omega arith) number (omega (arith, len)) (length-put .ensures) (put .ensures .0) in
     let all =
-    joined-strings lanes (name .last .0) (put .last .0) (encodeString KMAC) (encodeString s) 8 (total % 136)
+    joined-strings lanes (name .last .0) (put .last .0) (encodeString KMAC) (encodeString s) 8 (total % rate)
     (kmac-absorbed lanes (name .last .0) (name .ensures)) customised in
     record {
       lanes = padded-lanes lanes (put .last .0) (c .absorb-zeros .last .0) x total counted all (c .absorb-zeros .ensures);

@@ -6,6 +6,7 @@ use native.Mathlib.Omega.{arith}
 use borrow.Author.Needs.{needs}
 use lib.ListN.{length, length-append}
 use Rattle.encode.specs.Encode.{encodeString}
+use Rattle.encode.specs.Padding.{rate}
 use Rattle.start.proofs.Strings.{joined-strings, padded-lanes, padded-blocks}
 use Rattle.start.proofs.prefix.absorb_name.Statement.{statement}
 use Rattle.start.proofs.prefix.absorb_name.Tie as tie
@@ -20,7 +21,7 @@ returns c =
     let N = encodeString (a .name .now) in
     let S = encodeString (a .customisation .now) in
     let n : both .result ≡ 2 + length (N ++ S) = omega (arith, length-append N S, both .ensures .0, name .ensures .0) in
-    let joined = joined-strings lanes (name .last .0) (both .last .0) N S (name .result % 136) (both .result % 136) (name .ensures .2) (both .ensures .2) in
+    let joined = joined-strings lanes (name .last .0) (both .last .0) N S (name .result % rate) (both .result % rate) (name .ensures .2) (both .ensures .2) in
     record {
       lanes = padded-lanes lanes (both .last .0) (c .absorb-zeros .last .0) (N ++ S) (both .result) n joined (c .absorb-zeros .ensures);
       blocks = padded-blocks lanes (both .last .0) (c .absorb-zeros .last .0) (N ++ S) (both .result) n joined (c .absorb-zeros .ensures);
