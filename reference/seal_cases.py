@@ -77,7 +77,7 @@ def edges(cases):
 def round_trips(cases):
     cases.heading("single", "round trips by the length of the text")
     for text in TEXTS:
-        for j in range(60):
+        for j in range(len(TEXTS) * len(TAGS)):
             seal_and_open(cases, 32, IVS[j % len(IVS)], text, TEXTS[j // len(TAGS)], text, TAGS[j % len(TAGS)])
         cases.end("single")
 

@@ -6,7 +6,7 @@ use Rattle.fips202.specs.Fips202.{keccakP}
 use Rattle.fips202.specs.Bytes.{xorBytes}
 use Rattle.encode.specs.Padding.{rate}
 
--- algorithm 8, steps 5 and 6: n blocks of input, each put in and permuted
+-- algorithm 8, step 6: n blocks of input, each put in and permuted
 unfoldable pub absorb : ℕ → List ℕ → List ℕ → List ℕ
 absorb zero a m = a
 absorb (suc n) a m = absorb n (keccakP (xorBytes a 0 (take rate m))) (drop rate m)

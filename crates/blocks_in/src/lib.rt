@@ -1,4 +1,4 @@
-// Whole blocks put into the sponge (FIPS 202, chapter 4, algorithm 8, steps 5 and 6). The lanes are taken to their places once, for all blocks of a piece, and
+// Whole blocks put into the sponge (FIPS 202, chapter 4, algorithm 8, step 6). The lanes are taken to their places once, for all blocks of a piece, and
 // the round constants are bound once; a block is put in where the lanes stand.
 ghost use mathlib.Core.Path.{_≡_};
 ghost use Prim.Native.Nat.{_+_, _*_, _<_, _≤_};
@@ -40,7 +40,7 @@ fn xor_block(p: &mut [u64; 15], q: &mut [u64; 10], s: &[u8], at: usize)
     ensures { λ r. ⌜ stateOf (now (p .exit)) (now (q .exit))
         ≡ xorBytes (stateOf (now (p .entry)) (now (q .entry))) 0 (take rate (drop at (now (s .entry)))) ⌝ }
 {
-    // Neither holds, by the `requires`. Tested once here, the compiler leaves out the tests of the 17 words.
+    // Neither holds, by the `requires`. Since they are tested here, the compiler leaves out the tests of the 17 words.
     if s.len() < RATE {
         return;
     }

@@ -5,7 +5,7 @@ use Rattle.fips202.specs.Fips202.{keccakP}
 use Rattle.fips202.specs.Bytes.{bytesAt}
 use Rattle.encode.specs.Padding.{rate}
 
--- algorithm 8, steps 7 to 10: n blocks of output, permuted between
+-- algorithm 8, steps 7, 8 and 10: n blocks of output, permuted between
 unfoldable pub squeeze : ℕ → List ℕ → List ℕ
 squeeze zero a = []
 squeeze (suc n) a = bytesAt a 0 rate ++ squeeze n (keccakP a)

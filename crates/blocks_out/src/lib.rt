@@ -1,4 +1,4 @@
-// Whole blocks taken out of the sponge (FIPS 202, chapter 4, algorithm 8, steps 7 to 10). As where blocks are put in, the lanes are taken to their places once,
+// Whole blocks taken out of the sponge (FIPS 202, chapter 4, algorithm 8, steps 8 and 10). As where blocks are put in, the lanes go to their places once,
 // for all blocks, and the round constants are bound once.
 ghost use mathlib.Core.Path.{_≡_};
 ghost use Prim.Native.Nat.{_+_, _*_};

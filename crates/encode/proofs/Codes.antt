@@ -1,4 +1,4 @@
--- left_encode of a number of one byte, and of two, as one number.
+-- left_encode of a number of one byte, and of two, as one word.
 use mathlib.Core.Path.{_≡_, ap, _∙_}
 use Prim.Native.Nat.{ℕ, suc, _+_, _*_, _/_, _%_, _≤_, _<_}
 use native.Mathlib.Omega.{arith}
@@ -9,7 +9,7 @@ use Rattle.encode.specs.Answer.{codeOf}
 use Rattle.encode.specs.Laws.Digits.{width-small, width-big}
 
 abbrev code : ℕ → ℕ → Code
-code number len = record { number = number; len = len }
+code word len = record { word = word; len = len }
 
 pub one-byte : (n : ℕ) → n < 0x100 → code (1 + n * 0x100) 2 ≡ codeOf (leftEncode n)
 unfolding codeOf leftEncode bigEndian

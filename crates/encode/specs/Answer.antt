@@ -17,6 +17,6 @@ pub record Answers (code : List ℕ) (r : Encoded) : Type 0 where
   pub fits : r .len ≤ 9
   pub nine : length (r .bytes) ≡ 9
 
--- the code as one number, its first byte the lowest, and its length
+-- the code as one word, its first byte the lowest, and its length
 unfoldable pub codeOf : List ℕ → Code
-codeOf code = record { number = numberOf 256 code; len = length code }
+codeOf code = record { word = numberOf 256 code; len = length code }

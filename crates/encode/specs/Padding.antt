@@ -12,7 +12,7 @@ rate = 136
 abbrev pub blocks : ℕ → ℕ
 blocks n = (n + (rate - 1)) / rate
 
--- the whole blocks of s from `at` on
+-- how many whole blocks s has from `at` on
 abbrev pub wholeBlocks : List ℕ → ℕ → ℕ
 wholeBlocks s at = (length s - at) / rate
 

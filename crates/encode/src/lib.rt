@@ -66,25 +66,25 @@ pub fn left_encode(n: u64) -> Encoded
     Encoded { bytes, len: w + 1 }
 }
 
-// An encoded number of at most eight bytes, as the number whose bytes they are, the lowest first, and how many they are.
+// An encoded number of at most eight bytes, as one word, the first byte the lowest, and how many they are.
 pub struct Code {
-    pub number: u64,
+    pub word: u64,
     pub len: usize,
 }
 
 // left_encode of a number of 16 bits, such as the length in bits of any string that is not refused.
 pub fn left_code(n: u16) -> Code
-    ensures { λ r. ⌜ (r ≡ codeOf (leftEncode n)) × (r .number < 0x100_0000) × (r .len ≤ 3) ⌝ }
+    ensures { λ r. ⌜ (r ≡ codeOf (leftEncode n)) × (r .word < 0x100_0000) × (r .len ≤ 3) ⌝ }
 {
     let x = n as u64;
     if x < 0x100 {
         return Code {
-            number: 1 + x * 0x100,
+            word: 1 + x * 0x100,
             len: 2,
         };
     }
     Code {
-        number: 2 + x / 0x100 * 0x100 + x % 0x100 * 0x1_0000,
+        word: 2 + x / 0x100 * 0x100 + x % 0x100 * 0x1_0000,
         len: 3,
     }
 }

@@ -17,3 +17,7 @@ judged levels chutes at (bad place) = wrong place
 
 unfoldable pub byteHead : ℕ → ℕ → ℕ → List ℕ → Head ℕ
 byteHead levels chutes at s = judged levels chutes at (planNumber at s)
+
+-- where either kind may stand: a level is left, and no chute stands before
+abbrev pub entryHead : ℕ → List ℕ → Head ℕ
+entryHead at s = byteHead 1 0 at s

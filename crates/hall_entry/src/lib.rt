@@ -3,7 +3,7 @@ ghost use mathlib.Core.Path.{_≡_};
 ghost use lib.ListN.{drop};
 ghost use Rattle.plan_read.specs.Plan.{planNumber};
 ghost use Rattle.hall_entry.specs.Entries.{kindAllowed};
-ghost use Rattle.hall_entry.specs.Bytes.{valued, byteHead};
+ghost use Rattle.hall_entry.specs.Bytes.{valued, byteHead, entryHead};
 ghost use Rattle.hall_entry.specs.Answers.{headAnswer, ReadsEntry};
 use leb128::Number;
 
@@ -65,7 +65,7 @@ pub fn head_at(plan: &[u8], levels: u32, chutes: u32, at: usize) -> EntryRead
 
 // The entry that starts at a place where either kind may stand. It has a body of its own: each of the two then has one caller, and is inlined there.
 pub fn entry_at(plan: &[u8], at: usize) -> EntryRead
-    ensures { λ r. ⌜ ReadsEntry (byteHead 1 0 at (drop at (now (plan .entry)))) r ⌝ }
+    ensures { λ r. ⌜ ReadsEntry (entryHead at (drop at (now (plan .entry)))) r ⌝ }
 {
     match leb128::number_at(plan, at, plan_read::READS_PADDED) {
         Number::Value { value, next } => {

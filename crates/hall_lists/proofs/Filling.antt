@@ -11,7 +11,7 @@ use Rattle.leb128.specs.Answers.{numberAnswer}
 use Rattle.leb128.specs.declared.Number.{Number}
 use Rattle.leb128.specs.declared.Number.the-variants.{Value, Bad}
 use Rattle.hall_entry.specs.Entries.{Entry, entry, kindsOf, valuesOf, first, wrong}
-use Rattle.hall_entry.specs.Bytes.{byteHead}
+use Rattle.hall_entry.specs.Bytes.{entryHead}
 use Rattle.hall_lists.specs.Sequence.{entriesStart, inSequence, StoresEntries}
 
 -- where the entries start, from the outermost number's answer
@@ -34,12 +34,12 @@ pub record Filling (s : List ℕ) (start : ℕ) (kinds₀ values₀ : List ℕ) 
       sets values₀ 0 (valuesOf (inSequence (length kinds₀) start (drop start s)))
 
 module _ (s : List ℕ) (count i at : ℕ) where
-  sequence-more : (k v next : ℕ) → i < count → byteHead 1 0 at (drop at s) ≡ first k v next (drop next s)
+  sequence-more : (k v next : ℕ) → i < count → entryHead at (drop at s) ≡ first k v next (drop next s)
       → inSequence (count - i) at (drop at s) ≡ entry k v ∷ inSequence (count - (i + 1)) next (drop next s)
   unfolding inSequence
   sequence-more k v next h e = let z : count - i ≡ suc (count - (i + 1)) = omega arith in rw (z, e)
 
-  pub sequence-stop : (place : ℕ) → i < count → byteHead 1 0 at (drop at s) ≡ wrong place → inSequence (count - i) at (drop at s) ≡ []
+  pub sequence-stop : (place : ℕ) → i < count → entryHead at (drop at s) ≡ wrong place → inSequence (count - i) at (drop at s) ≡ []
   unfolding inSequence
   sequence-stop place h e = let z : count - i ≡ suc (count - (i + 1)) = omega arith in rw (z, e)
 
@@ -52,7 +52,7 @@ sets-next l i x xs = rw add-one
 
 module _ {s : List ℕ} {start : ℕ} {kinds₀ values₀ : List ℕ} {count : ℕ} {kinds values : List ℕ} {at i : ℕ}
     (f : Filling s start kinds₀ values₀ count kinds values at i) where
-  pub filling-more : (k v next : ℕ) → i < count → byteHead 1 0 at (drop at s) ≡ first k v next (drop next s) → next ≤ length s
+  pub filling-more : (k v next : ℕ) → i < count → entryHead at (drop at s) ≡ first k v next (drop next s) → next ≤ length s
       → Filling s start kinds₀ values₀ count (set kinds i k) (set values i v) next (i + 1)
   filling-more k v next h e n =
       let rest : List Entry = inSequence (count - (i + 1)) next (drop next s) in

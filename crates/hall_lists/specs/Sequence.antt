@@ -6,7 +6,7 @@ use lib.ListN.{length, drop}
 use lib.Seq.{sets}
 use Rattle.leb128.specs.Number.{Parsed, value, bad}
 use Rattle.hall_entry.specs.Entries.{Entry, entry, kindsOf, valuesOf, Head, first, wrong}
-use Rattle.hall_entry.specs.Bytes.{byteHead}
+use Rattle.hall_entry.specs.Bytes.{entryHead}
 
 -- where the entries start: past the outermost number
 abbrev pub entriesStart : Parsed → ℕ
@@ -20,7 +20,7 @@ consEntry (wrong place) more = []
 -- n entries at the place `at`; a level is left and no chute stands before, so that either kind may stand
 unfoldable pub inSequence : ℕ → ℕ → List ℕ → List Entry
 inSequence zero at s = []
-inSequence (suc n) at s = consEntry (byteHead 1 0 at s) (λ next rest. inSequence n next rest)
+inSequence (suc n) at s = consEntry (entryHead at s) (λ next rest. inSequence n next rest)
 
 -- what the stores of entries ask of their caller: a place inside the plan, and lists of equal length. No public contract cites it.
 pub record ListsRoom (start : ℕ) (s kinds values : List ℕ) : Type 0 where

@@ -15,8 +15,8 @@ use Rattle.encode.specs.Laws.Bytes.{getD-bytes, digits-bytes}
 use Rattle.lanes_in.specs.Laws.Lanes.{EachByte, numberOf-split, bytes-take, bytes-drop, xor-lane-from, xor-lane, xor-lane-at, more-put}
 
 -- a number's own eight
-pub number-put : (a : List ℕ) (i w : ℕ) → w < 2 ^ 64 → set a i (bitXor (getD a i 0) w) ≡ xorBytes a (8 * i) (digits 256 8 w)
-number-put a i w h =
+pub word-put : (a : List ℕ) (i w : ℕ) → w < 2 ^ 64 → set a i (bitXor (getD a i 0) w) ≡ xorBytes a (8 * i) (digits 256 8 w)
+word-put a i w h =
     ap (λ (x : ℕ). set a i (bitXor (getD a i 0) x)) (sym (numberOf-digits 256 (omega arith) 8 w h))
     ∙ sym (xor-lane (digits 256 8 w) a i (omega arith) (λ k. getD-bytes (digits 256 8 w) k (digits-bytes 8 w)))
 

@@ -135,8 +135,8 @@ pub fn xor_byte(lanes: &mut [u64; 25], p: usize, b: u8)
     xor_at(lanes, p % RATE, b);
 }
 
-// The eight bytes whose number is `w`, the lowest first, put in at lane `i` of the block, i taken modulo its number of lanes.
-pub fn xor_number(lanes: &mut [u64; 25], i: usize, w: u64)
+// The eight bytes of the word `w`, the lowest first, put in at lane `i` of the block, i taken modulo its number of lanes.
+pub fn xor_word(lanes: &mut [u64; 25], i: usize, w: u64)
     ensures { λ r. ⌜ now (lanes .exit) ≡ xorBytes (now (lanes .entry)) (8 * (i % (rate / 8))) (digits 256 8 w) ⌝ }
 {
     let lane = i % (RATE / 8);

@@ -59,8 +59,8 @@ both-stored n m v at l p q hp hq = hq ∙ ap (λ (x : List ℕ). sets x (at + n)
 
 -- ---- m bytes more of those from byte p on
 
-pub more-put : (l a : List ℕ) (at p i m : ℕ) → sets (sets l at (bytesAt a p i)) (at + i) (bytesAt a (p + i) m) ≡ sets l at (bytesAt a p (i + m))
-more-put l a at p i m =
+pub more-stored : (l a : List ℕ) (at p i m : ℕ) → sets (sets l at (bytesAt a p i)) (at + i) (bytesAt a (p + i) m) ≡ sets l at (bytesAt a p (i + m))
+more-stored l a at p i m =
     ap (λ (k : ℕ). sets (sets l at (bytesAt a p i)) (at + k) (bytesAt a (p + i) m)) (sym (length-bytesAt i a p))
     ∙ sym (sets-append l at (bytesAt a p i) (bytesAt a (p + i) m))
     ∙ ap (sets l at) (sym (bytesAt-append i m a p))
@@ -69,19 +69,19 @@ more-put l a at p i m =
 pub both-put : (l x y a : List ℕ) (at p i m n : ℕ) → i + m ≡ n → x ≡ sets l at (bytesAt a p i) → y ≡ sets x (at + i) (bytesAt a (p + i) m)
     → y ≡ sets l at (bytesAt a p n)
 both-put l x y a at p i m n e hx hy =
-    hy ∙ ap (λ (z : List ℕ). sets z (at + i) (bytesAt a (p + i) m)) hx ∙ more-put l a at p i m ∙ ap (λ (k : ℕ). sets l at (bytesAt a p k)) e
+    hy ∙ ap (λ (z : List ℕ). sets z (at + i) (bytesAt a (p + i) m)) hx ∙ more-stored l a at p i m ∙ ap (λ (k : ℕ). sets l at (bytesAt a p k)) e
 
 -- one byte of them
-pub byte-put : (l a : List ℕ) (at p : ℕ) → set l at (byteAt a p) ≡ sets l at (bytesAt a p 1)
+pub byte-stored : (l a : List ℕ) (at p : ℕ) → set l at (byteAt a p) ≡ sets l at (bytesAt a p 1)
 unfolding bytesAt
-byte-put l a at p = refl
+byte-stored l a at p = refl
 
 -- lane q + i of those from lane q on
-pub lane-put : (l a : List ℕ) (at q i : ℕ) → sets (sets l at (bytesAt a (8 * q) (8 * i))) (at + 8 * i) (digits 256 8 (getD a (q + i) 0))
+pub lane-stored : (l a : List ℕ) (at q i : ℕ) → sets (sets l at (bytesAt a (8 * q) (8 * i))) (at + 8 * i) (digits 256 8 (getD a (q + i) 0))
     ≡ sets l at (bytesAt a (8 * q) (8 * (i + 1)))
-lane-put l a at q i =
+lane-stored l a at q i =
     let place : 8 * (q + i) ≡ 8 * q + 8 * i = omega arith in
     let bytes : 8 * i + 8 ≡ 8 * (i + 1) = omega arith in
     ap (sets (sets l at (bytesAt a (8 * q) (8 * i))) (at + 8 * i)) (sym (bytes-lane a (q + i)) ∙ ap (λ (k : ℕ). bytesAt a k 8) place)
-    ∙ more-put l a at (8 * q) (8 * i) 8
+    ∙ more-stored l a at (8 * q) (8 * i) 8
     ∙ ap (λ (k : ℕ). sets l at (bytesAt a (8 * q) k)) bytes

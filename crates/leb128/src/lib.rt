@@ -44,7 +44,7 @@ fn third_at(bytes: &[u8], at: usize, padded: bool, first: u32, second: u32) -> N
         if may_end(padded, group) {
             return Number::Value {
                 value: first % 128 + 128 * (second % 128 + 128 * group),
-                next: at + 1,
+                next: at + 1, // past the third group
             };
         }
         return Number::Bad(at); // the third group is more than the number needs
@@ -64,7 +64,7 @@ fn second_at(bytes: &[u8], at: usize, padded: bool, first: u32) -> Number
         if may_end(padded, group) {
             return Number::Value {
                 value: first % 128 + 128 * group,
-                next: at + 1,
+                next: at + 1, // past the second group
             };
         }
         return Number::Bad(at); // the second group is more than the number needs
@@ -84,7 +84,7 @@ pub fn number_at(bytes: &[u8], at: usize, padded: bool) -> Number
     if first < 128 {
         return Number::Value {
             value: first,
-            next: at + 1,
+            next: at + 1, // past the only group
         };
     }
     second_at(bytes, at + 1, padded, first)

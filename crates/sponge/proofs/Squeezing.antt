@@ -139,8 +139,8 @@ module _ (l a x : List ℕ) (p n : ℕ) (en : n ≡ min (rate - p) (length l - 0
   first : x ≡ sets l 0 (squeezed n (running a p))
   first = ex ∙ ap (sets l 0) (sym (squeezed-in n a p (omega arith)))
 
-  filled : (k : ℕ) → k ≡ length l → sets l 0 (squeezed k (running a p)) ≡ squeezed (length l) (running a p)
-  filled k e =
+  whole-output : (k : ℕ) → k ≡ length l → sets l 0 (squeezed k (running a p)) ≡ squeezed (length l) (running a p)
+  whole-output k e =
       ap (λ (i : ℕ). sets l 0 (squeezed i (running a p))) e
       ∙ sets-all l (squeezed (length l) (running a p)) (length-squeezed (length l) (running a p))
 
@@ -148,7 +148,7 @@ module _ (l a x : List ℕ) (p n : ℕ) (en : n ≡ min (rate - p) (length l - 0
   pub squeezed-begun : length l ≤ n → (running a (p + n) ≡ after (length l) (running a p)) × (x ≡ squeezed (length l) (running a p))
   squeezed-begun h =
       let e : n ≡ length l = omega arith in
-      (sym (after-in n a p (omega arith)) ∙ ap (λ (k : ℕ). after k (running a p)) e, first ∙ filled n e)
+      (sym (after-in n a p (omega arith)) ∙ ap (λ (k : ℕ). after k (running a p)) e, first ∙ whole-output n e)
 
   -- y has the rest, which comes after the block
   pub squeezed-past : (b y : List ℕ) (r : ℕ) → n < length l → length x ≡ length l → running b r ≡ after (length x - n) (running a rate)
@@ -173,5 +173,5 @@ module _ (l a x : List ℕ) (p n : ℕ) (en : n ≡ min (rate - p) (length l - 0
             ∙ ap₂ (λ (u v : List ℕ). sets u n v) first (ap (λ (k : ℕ). squeezed k (running a rate)) em ∙ bytes)
             ∙ ap (λ (k : ℕ). sets (sets l 0 (squeezed n (running a p))) k (squeezed m (after n (running a p)))) place
             ∙ squeezed-on (running a p) l 0 n m
-            ∙ filled (n + m) e,
+            ∙ whole-output (n + m) e,
       )

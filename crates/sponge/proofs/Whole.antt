@@ -111,12 +111,12 @@ squeezed-whole suffix m n =
 -- ---- a shorter output is the beginning of a longer one
 
 -- the lanes that all input has been absorbed into
-abbrev pub filled : List ℕ → List ℕ
-filled m = absorb (length m / rate) (replicate 25 0) m
+abbrev pub allAbsorbed : List ℕ → List ℕ
+allAbsorbed m = absorb (length m / rate) (replicate 25 0) m
 
-pub sponge-running : (m : List ℕ) (n : ℕ) → sponge m n ≡ squeezed n (running (filled m) 0)
+pub sponge-running : (m : List ℕ) (n : ℕ) → sponge m n ≡ squeezed n (running (allAbsorbed m) 0)
 unfolding sponge
-sponge-running m n = sym (squeezed-squeeze (blocks n) (filled m) n (omega arith))
+sponge-running m n = sym (squeezed-squeeze (blocks n) (allAbsorbed m) n (omega arith))
 
 module _ (n k : ℕ) (s : Running) where
   pub squeezed-take : take n (squeezed (n + k) s) ≡ squeezed n s
@@ -128,12 +128,12 @@ module _ (n k : ℕ) (s : Running) where
 pub sponge-prefix : (m : List ℕ) (n l : ℕ) → n ≤ l → take n (sponge m l) ≡ sponge m n
 sponge-prefix m n l h =
     let e : l ≡ n + (l - n) = omega arith in
-    ap (take n) (sponge-running m l ∙ ap (λ (k : ℕ). squeezed k (running (filled m) 0)) e)
-    ∙ squeezed-take n (l - n) (running (filled m) 0)
+    ap (take n) (sponge-running m l ∙ ap (λ (k : ℕ). squeezed k (running (allAbsorbed m) 0)) e)
+    ∙ squeezed-take n (l - n) (running (allAbsorbed m) 0)
     ∙ sym (sponge-running m n)
 
 pub length-sponge : (m : List ℕ) (n : ℕ) → length (sponge m n) ≡ n
-length-sponge m n = ap length (sponge-running m n) ∙ length-squeezed n (running (filled m) 0)
+length-sponge m n = ap length (sponge-running m n) ∙ length-squeezed n (running (allAbsorbed m) 0)
 
 -- ---- zeros to the block's end
 

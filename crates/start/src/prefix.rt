@@ -9,7 +9,7 @@ ghost use Rattle.encode.specs.Encode.{leftEncode, encodeString, KMAC};
 ghost use Rattle.sponge.specs.Running.{running, absorbed};
 ghost use Rattle.start.specs.Prefix.{longestString, Padded};
 use encode::RATE;
-use lanes_in::xor_number;
+use lanes_in::xor_word;
 use sponge::absorb;
 use sponge::absorb_zeros;
 
@@ -25,7 +25,7 @@ fn absorb_first(lanes: &mut [u64; 25], s: &[u8]) -> usize
         × (running (now (lanes .exit)) (r % rate) ≡ absorbed (running (now (lanes .entry)) 0) (leftEncode rate ++ encodeString (now (s .entry)))) ⌝ }
 {
     let code = encode::left_code((8 * s.len()) as u16);
-    xor_number(lanes, 0, ENCODED_RATE + code.number * 0x1_0000);
+    xor_word(lanes, 0, ENCODED_RATE + code.word * 0x1_0000);
     let n = 2 + code.len;
     absorb(lanes, n, s);
     n + s.len()
@@ -61,9 +61,9 @@ pub fn absorb_kmac(lanes: &mut [u64; 25], customisation: &[u8]) -> usize
     requires { ⌜ length (now customisation) ≤ longestString ⌝ }
     ensures { λ r. ⌜ Padded (encodeString KMAC ++ encodeString (now (customisation .entry))) (now (lanes .entry)) (now (lanes .exit)) r ⌝ }
 {
-    xor_number(lanes, 0, RATE_AND_KMAC);
+    xor_word(lanes, 0, RATE_AND_KMAC);
     let code = encode::left_code((8 * customisation.len()) as u16);
-    xor_number(lanes, 1, code.number);
+    xor_word(lanes, 1, code.word);
     let n = 8 + code.len;
     absorb(lanes, n, customisation);
     let total = n + customisation.len();

@@ -6,7 +6,7 @@ use lib.ListN.{length, drop}
 use Rattle.encode.specs.Padding.{rate, wholeBlocks}
 use Rattle.encode.specs.Laws.Lengths.{same-end}
 use Rattle.in_place.specs.Rounds.{stateOf}
-use Rattle.in_place.specs.Laws.Turns.{placed}
+use Rattle.in_place.specs.Laws.Turns.{stateOf-columns}
 use Rattle.blocks_in.specs.Blocks.{absorb}
 use Rattle.blocks_in.proofs.Blocks.{one-block, no-block, nothing-left}
 use Rattle.blocks_in.proofs.absorb_blocks.Statement.{statement}
@@ -48,7 +48,7 @@ first-block c =
       same-end (a .s .now) (a .from) (omega arith),
       one-block (a .s .now) (a .from) (k .result) _ _ (k .ensures) (omega arith) (c .absorb-block .ensures)
           ∙ ap (λ l. absorb (wholeBlocks (a .s .now) (a .from)) l (drop (a .from) (a .s .now)))
-          (placed (a .lanes .now) (ce .evens .result) (co .odds .result) (ce .evens .ensures) (co .odds .ensures) (cl .all-lanes .ensures)),
+          (stateOf-columns (a .lanes .now) (ce .evens .result) (co .odds .result) (ce .evens .ensures) (co .odds .ensures) (cl .all-lanes .ensures)),
     )
 
 next-block : tie.Need-loop-again Inv-loop μ-loop

@@ -10,7 +10,7 @@ use Rattle.fips202.specs.Bytes.{bytesAt}
 use Rattle.encode.specs.Padding.{rate, wholeBlocks}
 use Rattle.encode.specs.Laws.Lengths.{same-end}
 use Rattle.in_place.specs.Rounds.{stateOf}
-use Rattle.in_place.specs.Laws.Turns.{placed}
+use Rattle.in_place.specs.Laws.Turns.{stateOf-columns}
 use Rattle.blocks_out.specs.Blocks.{squeeze, permuted}
 use Rattle.blocks_out.proofs.Blocks.{lanes-after, out-after, lanes-stay, out-stays, no-block}
 use Rattle.blocks_out.proofs.squeeze_blocks.Statement.{statement}
@@ -48,7 +48,7 @@ loop-holds c =
     let cl = ce .before .before in
     let a = start c .args in
     let e : stateOf (ce .evens .result) (c .odds .result) ≡ a .lanes .now
-    = placed (a .lanes .now) (ce .evens .result) (c .odds .result) (ce .evens .ensures) (c .odds .ensures) (cl .all-lanes .ensures) in (
+    = stateOf-columns (a .lanes .now) (ce .evens .result) (c .odds .result) (ce .evens .ensures) (c .odds .ensures) (cl .all-lanes .ensures) in (
       omega arith,
       refl,
       refl,

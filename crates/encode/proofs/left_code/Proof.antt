@@ -1,4 +1,4 @@
--- The number has one byte, or two (`Words`).
+-- The number has one byte, or two (`Codes`).
 use native.Mathlib.Omega.{arith}
 use borrow.Author.Needs.{needs}
 use Rattle.encode.proofs.Codes.{one-byte, two-bytes}

@@ -25,11 +25,6 @@ getD-bytes [] i p = omega arith
 getD-bytes (x ∷ l) zero p = p .0
 getD-bytes (x ∷ l) (suc i) p = getD-bytes l i (p .1)
 
--- as the contents of a slice of bytes are known
-pub bytes-getD : (l : List ℕ) → ((i : ℕ) → getD l i 0 < 256) → Bytes l
-bytes-getD [] h = tt
-bytes-getD (x ∷ l) h = (h 0, bytes-getD l (λ i. h (suc i)))
-
 zeros-bytes : (n : ℕ) → Bytes (replicate n 0)
 zeros-bytes zero = tt
 zeros-bytes (suc n) = (omega arith, zeros-bytes n)

@@ -8,7 +8,7 @@ use lib.ListN.{drop}
 use Rattle.leb128.specs.declared.Number.{Number}
 use Rattle.leb128.specs.declared.Number.the-variants.{Value}
 use Rattle.hall_entry.specs.Entries.{kindAllowed}
-use Rattle.hall_entry.specs.Bytes.{byteHead}
+use Rattle.hall_entry.specs.Bytes.{entryHead}
 use Rattle.hall_entry.specs.Answers.{headAnswer}
 use Rattle.hall_entry.specs.declared.EntryRead.{EntryRead}
 use Rattle.hall_entry.specs.Laws.Heads.{kind-known}
@@ -25,14 +25,14 @@ abbrev byKind : tie.After-number-at → Number → EntryRead
 byKind n = let a = start n .args in kindAnswer (now (a .plan)) 1 0 (a .at)
 
 after : (n : tie.After-number-at)
-    → let a = start n .args in byKind n (n .number-at .result) ≡ headAnswer (byteHead 1 0 (a .at) (drop (a .at) (now (a .plan))))
+    → let a = start n .args in byKind n (n .number-at .result) ≡ headAnswer (entryHead (a .at) (drop (a .at) (now (a .plan))))
 after n =
     let a = start n .args in
     ap (byKind n) (n .number-at .ensures .answer) ∙ kind-answer (now (a .plan)) 1 0 (a .at)
 
 -- where there is one
 known : (c : tie.After-value) → let n = c .before .before in let a = start n .args in
-    byKind n (Value (c .value .given .0 .0) (c .value .given .0 .1 .0)) ≡ headAnswer (byteHead 1 0 (a .at) (drop (a .at) (now (a .plan))))
+    byKind n (Value (c .value .given .0 .0) (c .value .given .0 .1 .0)) ≡ headAnswer (entryHead (a .at) (drop (a .at) (now (a .plan))))
 known c = let n = c .before .before in sym (ap (byKind n) (c .value .given .1)) ∙ after n
 
 number-at-requires : tie.Need-number-at-requires

@@ -12,7 +12,7 @@ use Rattle.plan_read.specs.Limits.{maxPlan}
 use Rattle.plan_read.specs.Plan.{planNumber}
 use Rattle.hall_entry.specs.Limits.{maxChutes, levelsBelow}
 use Rattle.hall_entry.specs.Entries.{Entry, entry, chuteKind, kindAllowed, Head, first, wrong, Read, reached, breach, entriesOf}
-use Rattle.hall_entry.specs.Bytes.{valued, judged, byteHead}
+use Rattle.hall_entry.specs.Bytes.{valued, judged, byteHead, entryHead}
 use Rattle.hall_entry.specs.Laws.Induction.{AllGood, reads-good}
 use Rattle.hall_entry.specs.Laws.Bytes.{NumberAfter, number-inside}
 use Rattle.hall_read.specs.Halls.{HallPlan, halls, refused, nothingAfter, withOuter, hallsOf}
@@ -30,7 +30,7 @@ free-kind levels chutes at (suc zero) h k v next rest e = free-zero (ltb 0 level
 free-kind levels chutes at (suc (suc j)) h k v next rest e = e
 
 free-head : (levels chutes at : ℕ) (s : List ℕ) (k v next : ℕ) (rest : List ℕ) → byteHead levels chutes at s ≡ first k v next rest
-    → byteHead 1 0 at s ≡ first k v next rest
+    → entryHead at s ≡ first k v next rest
 unfolding byteHead
 free-head levels chutes at s k v next rest e = go (planNumber at s) e
   where

@@ -69,5 +69,5 @@ columns : (a : List ℕ) → lanes 0 (standing (evenColumns (complemented a)) (o
 unfolding lanes evenColumns oddColumns complemented masked
 columns a = refl
 
-pub placed : (a p q : List ℕ) → p ≡ evenColumns (complemented a) → q ≡ oddColumns (complemented a) → length a ≡ 25 → stateOf p q ≡ a
-placed a p q ep eq h = ap₂ stateOf ep eq ∙ ap complemented (columns a) ∙ complemented-twice a h
+pub stateOf-columns : (a p q : List ℕ) → p ≡ evenColumns (complemented a) → q ≡ oddColumns (complemented a) → length a ≡ 25 → stateOf p q ≡ a
+stateOf-columns a p q ep eq h = ap₂ stateOf ep eq ∙ ap complemented (columns a) ∙ complemented-twice a h

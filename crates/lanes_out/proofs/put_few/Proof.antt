@@ -1,11 +1,11 @@
--- The loop's invariant: the bytes passed stand in `out`. A turn adds a byte (`Lanes.more-put`).
+-- The loop's invariant: the bytes passed stand in `out`. A turn adds a byte (`Lanes.more-stored`).
 use mathlib.Core.Path.{_≡_, refl, _∙_}
 use Prim.Native.Nat.{_≤_, _+_, _-_}
 use native.Mathlib.Omega.{arith}
 use lib.ListN.{length, length-set}
 use lib.Seq.{sets}
 use Rattle.fips202.specs.Bytes.{bytesAt}
-use Rattle.lanes_out.proofs.Lanes.{more-put, byte-put}
+use Rattle.lanes_out.proofs.Lanes.{more-stored, byte-stored}
 use Rattle.lanes_out.proofs.put_few.Statement.{statement}
 use Rattle.lanes_out.proofs.put_few.Tie as tie
 
@@ -27,8 +27,8 @@ loop-again c =
       omega arith,
       simp length-set (k .inv .1),
       rw (c .byte-at .ensures)
-          (byte-put (k .out) (a .lanes .now) (a .at + k .i) (a .p + k .i)
-          ∙ rw (k .inv .2) (more-put (a .out .now) (a .lanes .now) (a .at) (a .p) (k .i) 1)),
+          (byte-stored (k .out) (a .lanes .now) (a .at + k .i) (a .p + k .i)
+          ∙ rw (k .inv .2) (more-stored (a .out .now) (a .lanes .now) (a .at) (a .p) (k .i) 1)),
     )
 
 same-length : tie.Need-same-length Inv-loop μ-loop

@@ -1,11 +1,11 @@
--- The loop's invariant: the bytes of the lanes passed stand in `out` (`Lanes.lane-put`).
+-- The loop's invariant: the bytes of the lanes passed stand in `out` (`Lanes.lane-stored`).
 use mathlib.Core.Path.{_≡_, refl, _∙_}
 use Prim.Native.Nat.{_≤_, _-_, _*_}
 use native.Mathlib.Omega.{arith}
 use lib.ListN.{length}
 use lib.Seq.{sets}
 use Rattle.fips202.specs.Bytes.{bytesAt}
-use Rattle.lanes_out.proofs.Lanes.{lane-put}
+use Rattle.lanes_out.proofs.Lanes.{lane-stored}
 use Rattle.lanes_out.proofs.put_lanes.Statement.{statement}
 use Rattle.lanes_out.proofs.put_lanes.Tie as tie
 
@@ -27,7 +27,7 @@ loop-again c =
     let k = turn .loop in (
       omega arith,
       stored .store8 .kept .0 ∙ k .inv .1,
-      stored .store8 .ensures ∙ rw (k .inv .2) (lane-put (a .out .now) (a .lanes .now) (a .at) (a .q) (k .i)),
+      stored .store8 .ensures ∙ rw (k .inv .2) (lane-stored (a .out .now) (a .lanes .now) (a .at) (a .q) (k .i)),
     )
 
 same-length : tie.Need-same-length Inv-loop μ-loop

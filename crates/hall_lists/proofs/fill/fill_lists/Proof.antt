@@ -5,7 +5,7 @@ use native.Mathlib.Omega.{arith}
 use borrow.Author.Needs.{needs}
 use denote.Ref.{now}
 use lib.ListN.{length, drop}
-use Rattle.hall_entry.specs.Bytes.{byteHead}
+use Rattle.hall_entry.specs.Bytes.{entryHead}
 use Rattle.hall_entry.specs.Laws.Heads.{head-known, head-wrong}
 use Rattle.hall_entry.specs.Laws.Bytes.{byte-heads}
 use Rattle.hall_lists.proofs.Filling.{Filling, filling-more, filling-done, sequence-stop, sequence-end}
@@ -65,7 +65,7 @@ loop-again c =
     let l = r .before .before .loop in
     let s = now (r .before .before .before .before .before .before .args .plan) in
     let g = c .before .head .given .0 in
-    let h = head-known s 1 0 (l .at) (g .0) (g .1 .0) (g .1 .1 .0) (byteHead 1 0 (l .at) (drop (l .at) s)) (byte-heads s 1 0 (l .at) (l .inv .inside))
+    let h = head-known s 1 0 (l .at) (g .0) (g .1 .0) (g .1 .1 .0) (entryHead (l .at) (drop (l .at) s)) (byte-heads s 1 0 (l .at) (l .inv .inside))
     (sym (r .entry-at .ensures .answer) ∙ c .before .head .given .1) in
     filling-more (l .inv) (g .0) (g .1 .0) (g .1 .1 .0) (r .before .loop-test .taken) (h .is) (h .inside)
 

@@ -20,14 +20,14 @@ returns c =
     let code = head .before .before .before .left-code in
     let a = head .before .before .before .before .before .args in
     let s = a .s .now in
-    let number : code .result .number ≡ numberOf 256 (leftEncode (8 * length s)) = ap (λ (u : Code). u .number) (code .ensures .0) in
+    let word : code .result .word ≡ numberOf 256 (leftEncode (8 * length s)) = ap (λ (u : Code). u .word) (code .ensures .0) in
     let len : code .result .len ≡ length (leftEncode (8 * length s)) = ap (λ (u : Code). u .len) (code .ensures .0) in (
       omega (arith, len, length-encodeString s, length-leftEncode (8 * length s)),
       omega (arith, code .ensures .2),
       rw rate-encoded
-          (headed-absorbed (a .lanes .now) (head .xor-number .last .0) (c .absorb .last .0) encodedRate s 0 (0x8801 + code .result .number * 0x1_0000)
+          (headed-absorbed (a .lanes .now) (head .xor-word .last .0) (c .absorb .last .0) encodedRate s 0 (0x8801 + code .result .word * 0x1_0000)
           (2 + code .result .len) (c .absorb .result) (search needs) (omega arith) (omega (arith, len, code .ensures .2)) (omega arith)
-          (omega (arith, number)) (omega (arith, len)) (head .xor-number .ensures) (c .absorb .ensures .0)),
+          (omega (arith, word)) (omega (arith, len)) (head .xor-word .ensures) (c .absorb .ensures .0)),
     )
 
 pub absorb-first-spec : {M : Type 1} → statement M

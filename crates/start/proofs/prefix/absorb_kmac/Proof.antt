@@ -26,10 +26,10 @@ returns c =
     let lanes = a .lanes .now in
     let s = a .customisation .now in
     let code = coded .left-code in
-    let name = begun .xor-number in
-    let length-put = head .xor-number2 in
+    let name = begun .xor-word in
+    let length-put = head .xor-word2 in
     let put = string .absorb in
-    let number : code .result .number ≡ numberOf 256 (leftEncode (8 * length s)) = ap (λ (u : Code). u .number) (code .ensures .0) in
+    let word : code .result .word ≡ numberOf 256 (leftEncode (8 * length s)) = ap (λ (u : Code). u .word) (code .ensures .0) in
     let len : code .result .len ≡ length (leftEncode (8 * length s)) = ap (λ (u : Code). u .len) (code .ensures .0) in
     let x = encodeString KMAC ++ encodeString s in
     let n = 8 + code .result .len in
@@ -37,8 +37,8 @@ returns c =
     let counted : total ≡ 2 + length x
     = omega (arith, len, length-append (encodeString KMAC) (encodeString s), length-encodeString s, length-leftEncode (8 * length s), kmac-length) in
     let customised =
-    headed-absorbed (name .last .0) (length-put .last .0) (put .last .0) [] s 1 (code .result .number) n (put .result) (search needs) (omega arith)
-    (omega (arith, len, code .ensures .2)) (omega arith) number (omega (arith, len)) (length-put .ensures) (put .ensures .0) in
+    headed-absorbed (name .last .0) (length-put .last .0) (put .last .0) [] s 1 (code .result .word) n (put .result) (search needs) (omega arith)
+    (omega (arith, len, code .ensures .2)) (omega arith) word (omega (arith, len)) (length-put .ensures) (put .ensures .0) in
     let all =
     joined-strings lanes (name .last .0) (put .last .0) (encodeString KMAC) (encodeString s) 8 (total % rate)
     (kmac-absorbed lanes (name .last .0) (name .ensures)) customised in
