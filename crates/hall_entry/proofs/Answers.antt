@@ -1,5 +1,5 @@
 -- The code's answer for an entry, by the answers for its two numbers.
-use mathlib.Core.Path.{_≡_, refl, ap, _∙_}
+use mathlib.Core.Path.{_≡_, refl, sym, ap, _∙_}
 use mathlib.Core.List.{List}
 use mathlib.Core.Bool.{Bool, true, false, cond}
 use Prim.Native.Nat.{ℕ}
@@ -48,6 +48,10 @@ module _ (s : List ℕ) (levels chutes at : ℕ) where
   kind-judged (value k next rest) r = rw (r .1) (answer-cond (kindAllowed levels chutes k) (valued k (planNumber next (drop next s))))
   kind-judged (bad place) r = refl
 
-  pub kind-answer : kindAnswer (numberAnswer (planNumber at (drop at s))) ≡ headAnswer (byteHead levels chutes at (drop at s))
+  kind-answer : kindAnswer (numberAnswer (planNumber at (drop at s))) ≡ headAnswer (byteHead levels chutes at (drop at s))
   unfolding byteHead
   kind-answer = kind-judged (planNumber at (drop at s)) (groups-rest readsPadded true 2 at s)
+
+  -- the same, of what the code finds in the number r that it has read
+  pub as-read : (r x : Number) → r ≡ numberAnswer (planNumber at (drop at s)) → r ≡ x → kindAnswer x ≡ headAnswer (byteHead levels chutes at (drop at s))
+  as-read r x e f = sym (ap kindAnswer f) ∙ ap kindAnswer e ∙ kind-answer
