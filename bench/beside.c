@@ -26,6 +26,7 @@ const struct row rows[] = {
     {"seal", SEALING, {64, 4096, MOST}},
     {"open", OPENING, {64, 4096, MOST}},
     {"draw", DRAWING, {64, 4096, MOST}},
+    {"draw, KMAC generator", KMAC_DRAWING, {64, 4096, MOST}},
     {"plan read, 4,096 rows of", PLAN_READ, {1, 2, 3}},
     {"plan lookup, 4,096 rows of", PLAN_LOOKUP, {1, 2, 3}},
     {"hall read, 4,096 chutes of", HALL_READ, {1, 2, 3}},

@@ -1,4 +1,4 @@
-/* OpenSSL as a worker: SHAKE256 and KMAC are its own; sealing and opening are made of its KMACXOF256. It has no cSHAKE256. */
+/* OpenSSL as a worker: SHAKE256 and KMAC are its own; sealing, opening and the KMAC generator's draws are made of its KMACXOF256. It has no cSHAKE256. */
 #include <openssl/core_names.h>
 #include <openssl/crypto.h>
 #include <openssl/evp.h>
@@ -41,17 +41,17 @@ static void shake256(size_t size)
     EVP_DigestFinalXOF(context, work.out, OUT);
 }
 
-static EVP_MAC_CTX *started(const uint8_t *key, const uint8_t *custom, size_t custom_length, int xof, size_t size)
+static EVP_MAC_CTX *started(const uint8_t *key, size_t key_length, const void *custom, size_t custom_length, int xof, size_t size)
 {
     OSSL_PARAM params[] = {OSSL_PARAM_construct_int(OSSL_MAC_PARAM_XOF, &xof), OSSL_PARAM_construct_size_t(OSSL_MAC_PARAM_SIZE, &size),
                            OSSL_PARAM_construct_octet_string(OSSL_MAC_PARAM_CUSTOM, (void *)custom, custom_length), OSSL_PARAM_construct_end()};
-    EVP_MAC_init(mac_context(), key, KEY, params);
+    EVP_MAC_init(mac_context(), key, key_length, params);
     return mac_context();
 }
 
 static void mac(const uint8_t *key, const uint8_t *custom, size_t custom_length, int xof, const uint8_t *message, size_t size, uint8_t *out, size_t length)
 {
-    EVP_MAC_CTX *context = started(key, custom, custom_length, xof, length);
+    EVP_MAC_CTX *context = started(key, KEY, custom, custom_length, xof, length);
     EVP_MAC_update(context, message, size);
     EVP_MAC_final(context, out, &length, length);
 }
@@ -64,7 +64,7 @@ static void output(size_t size) { mac(work.key, work.custom, CUSTOM, 1, work.tex
 
 static void session(size_t piece)
 {
-    EVP_MAC_CTX *context = started(work.key, work.custom, CUSTOM, 1, OUT);
+    EVP_MAC_CTX *context = started(work.key, KEY, work.custom, CUSTOM, 1, OUT);
     for (size_t at = 0; at < MOST; at += piece)
         EVP_MAC_update(context, work.text + at, MOST - at < piece ? MOST - at : piece);
     size_t length;
@@ -97,4 +97,21 @@ static void opening(size_t size)
         combined(work.sealed, size);
 }
 
-const struct worker openssl = {"OpenSSL", {permutation, shake256, NULL, kmac256, kmacxof256, output, session, sealing, opening}, 1u << PERMUTATION, NULL};
+/* Each piece goes into a buffer of its own, for the same reason. */
+static void kmac_drawing(size_t size)
+{
+    uint8_t piece[SEED_KEY + PIECE];
+    memcpy(piece, work.drawing_key, SEED_KEY);
+    for (size_t at = 0; at < size; at += PIECE) {
+        size_t part = size - at < PIECE ? size - at : PIECE, length;
+        EVP_MAC_CTX *context = started(piece, SEED_KEY, "KMAC-DRNG generate", 18, 1, SEED_KEY + part);
+        EVP_MAC_update(context, work.name, NAME);
+        EVP_MAC_update(context, (const uint8_t[]){NAME}, 1);
+        EVP_MAC_final(context, piece, &length, SEED_KEY + part);
+        memcpy(work.out + at, piece + SEED_KEY, part);
+    }
+}
+
+const struct worker openssl = {"OpenSSL",
+                               {permutation, shake256, NULL, kmac256, kmacxof256, output, session, sealing, opening, NULL, kmac_drawing},
+                               1u << PERMUTATION, NULL};

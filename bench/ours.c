@@ -41,6 +41,14 @@ static void drawing(size_t size)
     hf_generator_draw(seeded, work.name, NAME, work.out, size);
 }
 
+static void kmac_drawing(size_t size)
+{
+    hf_kmac_generator seeded = {.seeded = 1};
+    for (int i = 0; i < SEED_KEY; i++)
+        seeded.key[i] = work.drawing_key[i];
+    hf_kmac_generator_draw(seeded, work.name, NAME, work.out, size);
+}
+
 static void plan_read(size_t row_bytes)
 {
     (void)row_bytes;
@@ -67,6 +75,6 @@ static void hall_lookup(size_t destination_bytes)
 }
 
 const struct worker ours = {"ours",
-                            {permutation, shake256, cshake256, kmac256, kmacxof256, output, session, sealing, opening, drawing, plan_read, plan_lookup,
-                             hall_read, hall_lookup},
+                            {permutation, shake256, cshake256, kmac256, kmacxof256, output, session, sealing, opening, drawing, kmac_drawing, plan_read,
+                             plan_lookup, hall_read, hall_lookup},
                             0, hf_version};

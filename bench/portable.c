@@ -1,94 +1,6 @@
 /* Portable C as a worker: the papers' functions over portable_keccak.c, as one would write them by hand, without refusals. */
-#include <string.h>
-
-#include "portable_keccak.h"
+#include "portable_sponge.h"
 #include "work.h"
-
-typedef struct {
-    uint64_t lanes[25];
-    size_t at; /* the next byte in the block */
-} sponge;
-
-static void absorb(sponge *s, const uint8_t *bytes, size_t length)
-{
-    while (length > 0) {
-        if (s->at == 0 && length >= BLOCK) {
-            uint64_t block[BLOCK / 8];
-            memcpy(block, bytes, BLOCK);
-            for (int i = 0; i < BLOCK / 8; i++)
-                s->lanes[i] ^= block[i];
-            bytes += BLOCK, length -= BLOCK;
-            portable_keccak_p(s->lanes);
-        } else {
-            s->lanes[s->at / 8] ^= (uint64_t)*bytes << 8 * (s->at % 8);
-            bytes++, length--;
-            if (++s->at == BLOCK)
-                portable_keccak_p(s->lanes), s->at = 0;
-        }
-    }
-}
-
-static void finish(sponge *s, uint8_t suffix)
-{
-    s->lanes[s->at / 8] ^= (uint64_t)suffix << 8 * (s->at % 8);
-    s->lanes[BLOCK / 8 - 1] ^= (uint64_t)0x80 << 56;
-    portable_keccak_p(s->lanes);
-    s->at = 0;
-}
-
-static void squeeze(sponge *s, uint8_t *out, size_t length)
-{
-    while (length > 0) {
-        if (s->at == BLOCK)
-            portable_keccak_p(s->lanes), s->at = 0;
-        size_t part = length < BLOCK - s->at ? length : BLOCK - s->at;
-        memcpy(out, (uint8_t *)s->lanes + s->at, part);
-        out += part, length -= part, s->at += part;
-    }
-}
-
-static void encode_string(sponge *s, const uint8_t *bytes, size_t length)
-{
-    uint8_t bits[3] = {1, (uint8_t)(8 * length)};
-    if (8 * length > 255)
-        bits[0] = 2, bits[1] = (uint8_t)(length >> 5), bits[2] = (uint8_t)(8 * length);
-    absorb(s, bits, bits[0] + 1u);
-    absorb(s, bytes, length);
-}
-
-static void pad_block(sponge *s)
-{
-    if (s->at > 0)
-        portable_keccak_p(s->lanes), s->at = 0;
-}
-
-static sponge named(const void *name, size_t name_length, const uint8_t *custom, size_t custom_length)
-{
-    sponge s = {{0}, 0};
-    absorb(&s, (const uint8_t[]){1, BLOCK}, 2);
-    encode_string(&s, name, name_length);
-    encode_string(&s, custom, custom_length);
-    pad_block(&s);
-    return s;
-}
-
-static sponge keyed(const uint8_t *key, const uint8_t *custom, size_t custom_length)
-{
-    sponge s = named("KMAC", 4, custom, custom_length);
-    absorb(&s, (const uint8_t[]){1, BLOCK}, 2);
-    encode_string(&s, key, KEY);
-    pad_block(&s);
-    return s;
-}
-
-static void end(sponge *s, const uint8_t *last, size_t last_length, uint8_t *out, size_t length)
-{
-    absorb(s, last, last_length);
-    finish(s, 4);
-    squeeze(s, out, length);
-}
-
-static void end_xof(sponge *s, uint8_t *out, size_t length) { end(s, (const uint8_t[]){0, 1}, 2, out, length); }
 
 static void permutation(size_t runs)
 {
@@ -113,14 +25,14 @@ static void cshake256(size_t size)
 
 static void kmac256(size_t size)
 {
-    sponge s = keyed(work.key, work.custom, CUSTOM);
+    sponge s = keyed(work.key, KEY, work.custom, CUSTOM);
     absorb(&s, work.text, size);
     end(&s, (const uint8_t[]){8 * OUT / 256, 8 * OUT % 256, 2}, 3, work.out, OUT);
 }
 
 static void session(size_t piece)
 {
-    sponge s = keyed(work.key, work.custom, CUSTOM);
+    sponge s = keyed(work.key, KEY, work.custom, CUSTOM);
     for (size_t at = 0; at < MOST; at += piece)
         absorb(&s, work.text + at, MOST - at < piece ? MOST - at : piece);
     end_xof(&s, work.out, OUT);
@@ -128,14 +40,14 @@ static void session(size_t piece)
 
 static void kmacxof256(size_t size)
 {
-    sponge s = keyed(work.key, work.custom, CUSTOM);
+    sponge s = keyed(work.key, KEY, work.custom, CUSTOM);
     absorb(&s, work.text, size);
     end_xof(&s, work.out, OUT);
 }
 
 static void output(size_t size)
 {
-    sponge s = keyed(work.key, work.custom, CUSTOM);
+    sponge s = keyed(work.key, KEY, work.custom, CUSTOM);
     absorb(&s, work.text, MESSAGE);
     end_xof(&s, work.out, size);
 }
@@ -143,7 +55,7 @@ static void output(size_t size)
 /* The key stream's sponge, its first bytes taken as the authentication key. */
 static sponge crypt(uint8_t *auth_key)
 {
-    sponge s = keyed(work.key, work.iv, IV);
+    sponge s = keyed(work.key, KEY, work.iv, IV);
     end_xof(&s, auth_key, KEY);
     return s;
 }
@@ -157,7 +69,7 @@ static void combine(sponge *s, const uint8_t *text, size_t size)
 
 static void tag_of(const uint8_t *auth_key, const uint8_t *sealed, size_t size, uint8_t *tag)
 {
-    sponge s = keyed(auth_key, work.iv, 0);
+    sponge s = keyed(auth_key, KEY, work.iv, 0);
     absorb(&s, sealed, size);
     end_xof(&s, tag, TAG);
 }
@@ -180,19 +92,28 @@ static void opening(size_t size)
         combine(&s, work.sealed, size);
 }
 
-static void drawing(size_t size)
+/* A draw piece by piece: each begins with the blocks before its message, and has these bytes after the additional input. */
+static void draw(size_t size, sponge (*begun)(const uint8_t *key), const uint8_t *last, size_t last_length)
 {
     uint8_t key[SEED_KEY];
     memcpy(key, work.drawing_key, SEED_KEY);
-    for (size_t at = 0; at < size; at += 208) {
-        sponge s = named("cSHAKE-DRNG generate", 20, key, SEED_KEY);
+    for (size_t at = 0; at < size; at += PIECE) {
+        sponge s = begun(key);
         absorb(&s, work.name, NAME);
-        end(&s, (const uint8_t[]){NAME}, 1, key, SEED_KEY);
-        squeeze(&s, work.out + at, size - at < 208 ? size - at : 208);
+        end(&s, last, last_length, key, SEED_KEY);
+        squeeze(&s, work.out + at, size - at < PIECE ? size - at : PIECE);
     }
 }
 
+static sponge cshake_piece(const uint8_t *key) { return named("cSHAKE-DRNG generate", 20, key, SEED_KEY); }
+
+static void drawing(size_t size) { draw(size, cshake_piece, (const uint8_t[]){NAME}, 1); }
+
+static sponge kmac_piece(const uint8_t *key) { return keyed(key, SEED_KEY, "KMAC-DRNG generate", 18); }
+
+static void kmac_drawing(size_t size) { draw(size, kmac_piece, (const uint8_t[]){NAME, 0, 1}, 3); }
+
 const struct worker portable = {"portable C",
-                                {permutation, shake256, cshake256, kmac256, kmacxof256, output, session, sealing, opening, drawing,
+                                {permutation, shake256, cshake256, kmac256, kmacxof256, output, session, sealing, opening, drawing, kmac_drawing,
                                  portable_plan_read, portable_plan_lookup, portable_hall_read, portable_hall_lookup},
                                 0, NULL};

@@ -4,7 +4,7 @@
 #include <stddef.h>
 #include <stdint.h>
 
-enum { MOST = 1 << 20, BLOCK = 136, KEY = 32, IV = 16, NAME = 8, CUSTOM = 8, TAG = 32, MESSAGE = 64, OUT = 64, SEED_KEY = 64, PLAN_MOST = 16937 };
+enum { MOST = 1 << 20, BLOCK = 136, KEY = 32, IV = 16, NAME = 8, CUSTOM = 8, TAG = 32, MESSAGE = 64, OUT = 64, SEED_KEY = 64, PIECE = 208, PLAN_MOST = 16937 };
 
 /* All that any of them reads or writes; buffers are touched before they are measured. */
 struct work {
@@ -17,7 +17,7 @@ struct work {
 };
 extern struct work work;
 
-/* What can be done, each with a size: bytes of the message or text; for OUTPUT, whose message has MESSAGE bytes, and for DRAWING those of the output; for the
+/* What can be done, each with a size: bytes of the message or text; for OUTPUT, whose message has MESSAGE bytes, and for draws those of the output; for the
    permutation the runs; for a session the bytes of a piece of 1 MiB; for a plan the bytes of a row, for a hall plan those of a destination. */
 enum kind {
     PERMUTATION,
@@ -30,6 +30,7 @@ enum kind {
     SEALING,
     OPENING,
     DRAWING,
+    KMAC_DRAWING,
     PLAN_READ,
     PLAN_LOOKUP,
     HALL_READ,

@@ -1,5 +1,5 @@
 // Works the accepted calls of the file (compare/README.md) out with Bouncy Castle and compares the outputs; for Java 17 or later.
-//   java -cp /usr/share/java/bcprov.jar compare/BouncyCastle.java FILE
+//   javac -cp /usr/share/java/bcprov.jar -d FOLDER compare/*.java && java -cp /usr/share/java/bcprov.jar:FOLDER BouncyCastle FILE
 // Openings refused with 8 are worked out too: their tag has to be another. Bouncy Castle 1.72 takes every accepted call, and counts no runs.
 
 import static org.bouncycastle.util.Arrays.concatenate;
@@ -8,7 +8,6 @@ import java.io.ByteArrayOutputStream;
 import java.nio.charset.StandardCharsets;
 import java.nio.file.*;
 import java.util.*;
-import java.util.zip.CRC32;
 import org.bouncycastle.crypto.digests.CSHAKEDigest;
 import org.bouncycastle.crypto.macs.KMAC;
 import org.bouncycastle.crypto.params.KeyParameter;
@@ -17,28 +16,8 @@ public final class BouncyCastle {
     static final int AUTH_KEY = 32; // bytes: the authentication key of a seal
     static final int GENERATOR_KEY = 64;
     static final int PIECE = 208;
-    static final byte[] NONE = {};
-    static final byte[] SEED_NAME = "cSHAKE-DRNG seed".getBytes(StandardCharsets.US_ASCII);
-    static final byte[] GENERATE_NAME = "cSHAKE-DRNG generate".getBytes(StandardCharsets.US_ASCII);
     static final String NOT_OFFERED = "the permutation and plans, which Bouncy Castle does not offer";
     static final String NOT_STARTED = "a session that could not start";
-
-    /** A line: the fields before and after its `=`. */
-    record Call(int line, String entry, String[] given, String[] answer) {
-        static Call of(int line, String text) {
-            String[] sides = text.split(" = ?", -1);
-            String[] call = sides[0].split(" ");
-            return new Call(line, call[0], Arrays.copyOfRange(call, 1, call.length), sides[1].split(" "));
-        }
-
-        byte[] bytes(int place) {
-            return bytesOf(given[place]);
-        }
-
-        int number(int place) {
-            return Integer.parseInt(given[place]);
-        }
-    }
 
     /** A session that started: what it took, joined, and its accepted asks for output. */
     record Session(Call start, ByteArrayOutputStream message, List<Call> asks) {}
@@ -48,26 +27,7 @@ public final class BouncyCastle {
     int differ;
     Optional<Session> session = Optional.empty();
     byte[] generatorKey;
-
-    /** Bytes as the file gives them: `-`, hexadecimal digits, or `*LENGTH:SEED`. */
-    static byte[] bytesOf(String field) {
-        if (!field.startsWith("*")) {
-            return field.equals("-") ? NONE : HexFormat.of().parseHex(field);
-        }
-        String[] parts = field.substring(1).split(":");
-        byte[] content = new byte[Integer.parseInt(parts[0])];
-        int seed = Integer.parseInt(parts[1]);
-        for (int i = 0; i < content.length; i++) {
-            content[i] = (byte) (seed + 7 * i + i / 256);
-        }
-        return content;
-    }
-
-    static boolean alike(String field, byte[] found) {
-        CRC32 sum = new CRC32();
-        sum.update(found);
-        return field.startsWith("%") ? field.equals(String.format("%%%d:%08x", found.length, sum.getValue())) : Arrays.equals(bytesOf(field), found);
-    }
+    boolean kmacGenerator;
 
     /** One of the three functions; `first` is the name or the key. */
     static byte[] hash(String function, byte[] first, byte[] customisation, byte[] message, int length) {
@@ -87,7 +47,7 @@ public final class BouncyCastle {
 
     /** The authentication key, then the text combined with the key stream. */
     static byte[] crypt(byte[] key, byte[] iv, byte[] text) {
-        byte[] stream = hash("kmacxof256", key, iv, NONE, AUTH_KEY + text.length);
+        byte[] stream = hash("kmacxof256", key, iv, Call.NONE, AUTH_KEY + text.length);
         for (int i = 0; i < text.length; i++) {
             stream[AUTH_KEY + i] ^= text[i];
         }
@@ -95,13 +55,13 @@ public final class BouncyCastle {
     }
 
     static byte[] tag(byte[] crypted, byte[] ciphertext, byte[] label, int length) {
-        return hash("kmacxof256", Arrays.copyOf(crypted, AUTH_KEY), NONE, concatenate(ciphertext, label), length);
+        return hash("kmacxof256", Arrays.copyOf(crypted, AUTH_KEY), Call.NONE, concatenate(ciphertext, label), length);
     }
 
     static boolean sealed(Call call) {
         byte[] crypted = crypt(call.bytes(0), call.bytes(1), call.bytes(2));
         byte[] ciphertext = Arrays.copyOfRange(crypted, AUTH_KEY, crypted.length);
-        return alike(call.answer[2], ciphertext) && alike(call.answer[3], tag(crypted, ciphertext, call.bytes(3), call.number(5)));
+        return call.answered(2, ciphertext) && call.answered(3, tag(crypted, ciphertext, call.bytes(3), call.number(5)));
     }
 
     static boolean opened(Call call) {
@@ -109,44 +69,50 @@ public final class BouncyCastle {
         byte[] given = call.bytes(5);
         byte[] crypted = crypt(call.bytes(0), call.bytes(1), ciphertext);
         boolean matches = Arrays.equals(given, tag(crypted, ciphertext, call.bytes(3), given.length));
-        return call.answer[0].equals("8") ? !matches : matches && alike(call.answer[2], Arrays.copyOfRange(crypted, AUTH_KEY, crypted.length));
+        return call.answer()[0].equals("8") ? !matches : matches && call.answered(2, Arrays.copyOfRange(crypted, AUTH_KEY, crypted.length));
     }
 
     static byte[] encoded(byte[] string) {
         return concatenate(string, new byte[] {(byte) string.length});
     }
 
+    /** The call that a seeding or a piece of a draw is made of: the key is KMACXOF256's key, or cSHAKE256's customisation. */
+    byte[] generated(String purpose, byte[] message, int length) {
+        byte[] named = ((kmacGenerator ? "KMAC-DRNG " : "cSHAKE-DRNG ") + purpose).getBytes(StandardCharsets.US_ASCII);
+        return kmacGenerator ? hash("kmacxof256", generatorKey, named, message, length) : hash("cshake256", named, generatorKey, message, length);
+    }
+
     boolean seeded(Call call) {
-        generatorKey = hash("cshake256", SEED_NAME, generatorKey, concatenate(call.bytes(0), encoded(call.bytes(1))), GENERATOR_KEY);
-        return alike(call.answer[2], generatorKey);
+        generatorKey = generated("seed", concatenate(call.bytes(0), encoded(call.bytes(1))), GENERATOR_KEY);
+        return call.answered(2, generatorKey);
     }
 
     boolean drawn(Call call) {
         byte[] output = new byte[call.number(1)];
         for (int at = 0; at < output.length; at += PIECE) {
-            byte[] piece = hash("cshake256", GENERATE_NAME, generatorKey, encoded(call.bytes(0)), GENERATOR_KEY + PIECE);
+            byte[] piece = generated("generate", encoded(call.bytes(0)), GENERATOR_KEY + PIECE);
             generatorKey = Arrays.copyOf(piece, GENERATOR_KEY);
             System.arraycopy(piece, GENERATOR_KEY, output, at, Math.min(PIECE, output.length - at));
         }
-        return alike(call.answer[2], output) && alike(call.answer[3], generatorKey);
+        return call.answered(2, output) && call.answered(3, generatorKey);
     }
 
     void counted(Call call, boolean same) {
-        agreed.merge(call.entry, same ? 1 : 0, Integer::sum);
+        agreed.merge(call.entry(), same ? 1 : 0, Integer::sum);
         if (!same) {
             differ++;
-            System.out.println("line " + call.line + ": " + call.entry + " differs from Bouncy Castle");
+            System.out.println("line " + call.line() + ": " + call.entry() + " differs from Bouncy Castle");
         }
     }
 
     /** Compares a session's outputs, joined, with the one call over its pieces, joined. */
     void compare(Session ended) {
-        String function = ended.start.entry.substring("session_".length());
+        String function = ended.start.entry().substring("session_".length());
         int total = ended.asks.stream().mapToInt(ask -> ask.number(0)).sum();
         byte[] output = hash(function, ended.start.bytes(0), ended.start.bytes(1), ended.message.toByteArray(), total);
         int at = 0;
         for (Call ask : ended.asks) {
-            counted(ask, alike(ask.answer[1], Arrays.copyOfRange(output, at, at + ask.number(0))));
+            counted(ask, ask.answered(1, Arrays.copyOfRange(output, at, at + ask.number(0))));
             at += ask.number(0);
         }
     }
@@ -156,17 +122,20 @@ public final class BouncyCastle {
     }
 
     void read(Call call) {
-        boolean refused = !Set.of("0", "8").contains(call.answer[0]);
-        switch (call.entry) {
-            case "generator_fresh" -> generatorKey = new byte[GENERATOR_KEY];
+        boolean refused = !Set.of("0", "8").contains(call.answer()[0]);
+        switch (call.entry()) {
+            case "generator_fresh", "kmac_generator_fresh" -> {
+                kmacGenerator = call.entry().startsWith("kmac");
+                generatorKey = new byte[GENERATOR_KEY];
+            }
             case "session_cshake256", "session_kmacxof256" -> {
                 session.ifPresent(this::compare);
                 session = refused ? Optional.empty() : Optional.of(new Session(call, new ByteArrayOutputStream(), new ArrayList<>()));
             }
-            case "take", "give", "seal", "open", "seed", "draw", "cshake256", "kmac256", "kmacxof256" -> work(refused ? "refused" : call.entry, call);
+            case "take", "give", "seal", "open", "seed", "draw", "cshake256", "kmac256", "kmacxof256" -> work(refused ? "refused" : call.entry(), call);
             case "keccak_p", "plan_read", "plan_destination", "plan_row", "plan_length", "plan_write", "plan_start", "plan_step", "hall_read",
                 "hall_destination", "hall_read_into", "hall_length", "hall_write" -> leaveOut(NOT_OFFERED);
-            default -> throw new IllegalArgumentException("line " + call.line + ": there is no entry " + call.entry);
+            default -> throw new IllegalArgumentException("line " + call.line() + ": there is no entry " + call.entry());
         }
     }
 
@@ -179,7 +148,7 @@ public final class BouncyCastle {
             case "open" -> counted(call, opened(call));
             case "seed" -> counted(call, seeded(call));
             case "draw" -> counted(call, drawn(call));
-            default -> counted(call, alike(call.answer[2], hash(call.entry, call.bytes(0), call.bytes(1), call.bytes(2), call.number(3))));
+            default -> counted(call, call.answered(2, hash(call.entry(), call.bytes(0), call.bytes(1), call.bytes(2), call.number(3))));
         }
     }
 

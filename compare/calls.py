@@ -3,7 +3,7 @@
     python3 compare/calls.py SEED COUNT [small]
 
 COUNT is the least number of lines; `small` leaves out those around 16 MiB. Fails unless every refusal of include/refusals.txt that is then within
-reach, and an acceptance of every entry, are among the answers.
+reach, and an acceptance of every entry, are among the answers, those of `seed` and `draw` for either generator.
 """
 
 import os
@@ -26,7 +26,8 @@ KINDS = {
     hash_calls.kmacxof: 14,
     hash_calls.session: 6,
     seal_calls.seal: 10,
-    seal_calls.generator_calls: 5,
+    seal_calls.cshake_generator: 5,
+    seal_calls.kmac_generator: 5,
     plan_calls.read: 8,
     plan_calls.look: 12,
     plan_calls.row: 12,
@@ -37,6 +38,7 @@ KINDS = {
     hall_calls.read_into: 8,
     hall_calls.write: 7,
 }
+FRESH, OF_GENERATORS = ("generator_fresh", "kmac_generator_fresh"), ("seed", "draw")
 LIMITS = (limit_calls.one_shot, limit_calls.session, limit_calls.seal, limit_calls.draw, hall_calls.too_many_entries)
 
 
@@ -60,21 +62,31 @@ def answer_of(line):
     """(entry, number): 0 where the line has none."""
     call, _, answer = line.partition(" =")
     entry = call.split(" ")[0]
-    return entry, int(answer.split()[0]) if answer and entry not in ("keccak_p", "generator_fresh") else 0
+    return entry, int(answer.split()[0]) if answer and entry != "keccak_p" else 0
+
+
+def answers(made):
+    """Each line with its entry and number; where the line goes on with a generator, the entry is named with the one it is."""
+    fresh = None
+    for line in made:
+        entry, number = answer_of(line)
+        fresh = entry if entry in FRESH else fresh
+        yield line, (f"{fresh}, {entry}" if entry in OF_GENERATORS else entry, number)
 
 
 def owed():
     """Every refusal in words, and an acceptance of its entry."""
     with open(os.path.join(fast_sponge.ROOT, "include", "refusals.txt"), encoding="ascii") as table:
         refusals = {(entry, int(number)) for entry, number, *_ in map(str.split, table)}
-    return refusals | {(entry, 0) for entry, _ in refusals}
+    named = {(name, number) for entry, number in refusals for name in ([f"{fresh}, {entry}" for fresh in FRESH] if entry in OF_GENERATORS else [entry])}
+    return named | {(entry, 0) for entry, _ in named}
 
 
 def main(seed, count, small):
     seen = Counter()
-    for line in lines(random.Random(seed), count, small):
+    for line, answer in answers(lines(random.Random(seed), count, small)):
         print(line)
-        seen[answer_of(line)] += 1
+        seen[answer] += 1
     missing = sorted(owed() - set(seen))
     extra = sorted(pair for pair in set(seen) - owed() if pair[1] != 0)
     if extra or (missing and not small):

@@ -49,11 +49,12 @@ def seal(rng):
 
 
 def draw(rng):
-    """A draw of each side."""
-    seed = rng.randbytes(48)
-    number, runs, state = generator.seed(generator.Generator(), seed, b"")
-    yield written("generator_fresh", [], [])
-    yield written("seed", [seed, b""], [number, runs, state.key])
-    for length in SIDES:
-        number, runs, output, state = generator.draw(state, b"", length)
-        yield written("draw", [b"", length], [number, runs, output, state.key])
+    """A draw of each side from each generator."""
+    for fresh, kind in (("generator_fresh", generator.CSHAKE), ("kmac_generator_fresh", generator.KMAC)):
+        seed = rng.randbytes(48)
+        number, runs, state = generator.seed(generator.Generator(kind), seed, b"")
+        yield written(fresh, [], [])
+        yield written("seed", [seed, b""], [number, runs, state.key])
+        for length in SIDES:
+            number, runs, output, state = generator.draw(state, b"", length)
+            yield written("draw", [b"", length], [number, runs, output, state.key])

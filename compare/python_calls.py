@@ -14,14 +14,15 @@ from callfile import FORMS, LIST, NUMBER, OUTPUT, Call, agrees, calls
 from python_plans import UNSEEN, LeftOut, PlanReader, same_length, started
 
 import hailfeather  # python_plans has put it on the path
-from hailfeather import Generator, Refusal, Session
+from hailfeather import Generator, KmacGenerator, Refusal, Session
+from hailfeather.generator import EitherGenerator
 
 
 class Reader(PlanReader):
     """A method for each entry: from the arguments to the answer's fields; the session and the generator of the last lines are kept."""
 
     session: Optional[Session] = None
-    generator = Generator()
+    generator: EitherGenerator = Generator()
 
     def keccak_p(self, given: Any) -> Tuple:
         return (hailfeather.keccak_p(given.lanes),)
@@ -67,6 +68,10 @@ class Reader(PlanReader):
 
     def generator_fresh(self, given: Any) -> Tuple:
         self.generator = Generator()
+        return ()
+
+    def kmac_generator_fresh(self, given: Any) -> Tuple:
+        self.generator = KmacGenerator()
         return ()
 
     def key(self) -> bytes:

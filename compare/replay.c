@@ -19,14 +19,14 @@ static const struct {
     {"session_cshake256", 4, replay_session}, {"session_kmacxof256", 4, replay_session},
     {"take", 3, replay_session},           {"give", 4, replay_session},
     {"seal", 11, replay_seal},             {"open", 10, replay_seal},
-    {"generator_fresh", 1, replay_generator}, {"seed", 6, replay_generator},
-    {"draw", 7, replay_generator},         {"plan_read", 4, replay_plan},
-    {"plan_destination", 5, replay_plan},  {"plan_row", 8, replay_plan},
-    {"plan_length", 4, replay_plan},       {"plan_write", 5, replay_plan},
-    {"plan_start", 4, replay_plan},        {"plan_step", 4, replay_plan},
-    {"hall_read", 6, replay_hall},         {"hall_destination", 5, replay_hall},
-    {"hall_read_into", 10, replay_hall},   {"hall_length", 6, replay_hall},
-    {"hall_write", 7, replay_hall},
+    {"generator_fresh", 1, replay_generator}, {"kmac_generator_fresh", 1, replay_generator},
+    {"seed", 6, replay_generator},         {"draw", 7, replay_generator},
+    {"plan_read", 4, replay_plan},         {"plan_destination", 5, replay_plan},
+    {"plan_row", 8, replay_plan},          {"plan_length", 4, replay_plan},
+    {"plan_write", 5, replay_plan},        {"plan_start", 4, replay_plan},
+    {"plan_step", 4, replay_plan},         {"hall_read", 6, replay_hall},
+    {"hall_destination", 5, replay_hall},  {"hall_read_into", 10, replay_hall},
+    {"hall_length", 6, replay_hall},       {"hall_write", 7, replay_hall},
 };
 enum { ENTRIES = sizeof entries / sizeof entries[0] };
 static long counts[ENTRIES];

@@ -1,4 +1,4 @@
-"""Random calls of sealing, opening and the generator."""
+"""Random calls of sealing, opening and the generators."""
 
 import generator
 import sealing
@@ -83,10 +83,20 @@ def drawn(rng, state):
     return written("draw", [additional, length], [number, runs, output, state.key]), state
 
 
-def generator_calls(rng):
-    """A generator through several seedings and draws; the first draw may come too early."""
-    state = generator.Generator()
+def cshake_generator(rng):
+    """A cSHAKE generator's calls."""
     yield written("generator_fresh", [], [])
+    yield from generator_calls(rng, generator.Generator(generator.CSHAKE))
+
+
+def kmac_generator(rng):
+    """A KMAC generator's calls."""
+    yield written("kmac_generator_fresh", [], [])
+    yield from generator_calls(rng, generator.Generator(generator.KMAC))
+
+
+def generator_calls(rng, state):
+    """A fresh generator through several seedings and draws; the first draw may come too early."""
     for _ in range(rng.randint(2, 8)):
         line, state = (seeded if rng.random() < 0.4 else drawn)(rng, state)
         yield line

@@ -1,5 +1,6 @@
 /* Hailfeather: Keccak-p[1600, 24], cSHAKE256, KMAC256 and KMACXOF256 in one call, the first and the last also in running sessions, sealing and opening by the
- * KMAC AEAD, the cSHAKE generator, chute plans and hall plans. Link with libhailfeather.a (x86-64), which needs nothing but the C library's memory functions.
+ * KMAC AEAD, the cSHAKE generator and the KMAC generator, chute plans and hall plans. Link with libhailfeather.a (x86-64), which needs nothing but the C
+ * library's memory functions.
  *
  * Pointers. Every pointer to bytes, rows or values is followed by the number of its elements. No pointer may be null, also where there are no elements: lend
  * HF_NOTHING, or any other pointer that is not null, with the length 0. Compilers that know the attribute warn of a null pointer. Bytes need no alignment;
@@ -159,7 +160,12 @@ hf_outcome hf_seal(const uint8_t *key, size_t key_length, const uint8_t *iv, siz
 hf_outcome hf_open(const uint8_t *key, size_t key_length, const uint8_t *iv, size_t iv_length, const uint8_t *ciphertext, size_t ciphertext_length,
                    const uint8_t *label, size_t label_length, uint8_t *out, size_t out_length, const uint8_t *tag, size_t tag_length) HF_NONNULL;
 
-/* ---- The cSHAKE generator ---- It gathers no randomness: all of it comes from the seeds. */
+/* ---- Generators ----
+ * The cSHAKE generator (cSHAKE-DRNG), and the KMAC generator (KMAC-DRNG) for those whose policy names KMAC: they have the same limits, refusals and rules, but
+ * each makes its own bytes of a seed, so to draw the same bytes again take the same generator. The first takes fewer runs. They gather no randomness: all of
+ * it comes from the seeds. Each has types of its own, so that a compiler refuses a state of the one that is passed to the other. */
+
+/* The cSHAKE generator. */
 typedef struct {
     uint8_t key[64]; /* secret; all zero before the first seeding */
     uint8_t seeded;  /* 0: never seeded; 1 (or any other number): seeded */
@@ -171,7 +177,7 @@ typedef struct {
     uint8_t number;
 } hf_draw;
 
-/* A generator that was never seeded. */
+/* A cSHAKE generator that was never seeded. */
 hf_generator hf_generator_fresh(void);
 /* Makes a new key of the old one, the seed and the personalisation (at most 84 bytes). It may be done again at any time; an empty seed is accepted and
    counts as a seeding. Refuses with 3, 5. */
@@ -181,6 +187,27 @@ hf_draw hf_generator_seed(hf_generator generator, const uint8_t *seed, size_t se
 /* Fills out, with an additional input of at most 84 bytes, in pieces of 208 bytes, and makes a new key with each; 3 runs a piece. Two draws of 10 bytes
    are not one of 20. A draw of no bytes is accepted and leaves the key. Refuses with 1, 3, 6. */
 hf_draw hf_generator_draw(hf_generator generator, const uint8_t *additional, size_t additional_length, uint8_t *out, size_t out_length) HF_NONNULL;
+
+/* The KMAC generator: the fields mean what they mean above. */
+typedef struct {
+    uint8_t key[64];
+    uint8_t seeded;
+} hf_kmac_generator;
+
+typedef struct {
+    hf_kmac_generator generator;
+    size_t runs;
+    uint8_t number;
+} hf_kmac_draw;
+
+/* A KMAC generator that was never seeded. */
+hf_kmac_generator hf_kmac_generator_fresh(void);
+/* As hf_generator_seed. Refuses with 3, 5. */
+hf_kmac_draw hf_kmac_generator_seed(hf_kmac_generator generator, const uint8_t *seed, size_t seed_length, const uint8_t *personalisation,
+                                    size_t personalisation_length) HF_NONNULL;
+/* As hf_generator_draw, but with 4 runs a piece. Refuses with 1, 3, 6. */
+hf_kmac_draw hf_kmac_generator_draw(hf_kmac_generator generator, const uint8_t *additional, size_t additional_length, uint8_t *out,
+                                    size_t out_length) HF_NONNULL;
 
 /* ---- Chute plans ----
  * A plan is the number of its rows (at most 4,096), then the destination of each, then nothing more. A number stands in one to three groups of seven bits,

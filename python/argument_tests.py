@@ -6,7 +6,8 @@ import tracemalloc
 import unittest
 from array import array
 
-from hailfeather import Generator, Output, Refusal, Session, cshake256, keccak_p, kmac256, kmacxof256, open_sealed, plan, seal
+from hailfeather import Generator, KmacGenerator, Output, Refusal, Session, cshake256, keccak_p, kmac256, kmacxof256, open_sealed, plan, seal
+from hailfeather.generator import EitherGenerator
 from hailfeather.lending import lent
 
 LARGEST = 2**64 - 1
@@ -34,13 +35,13 @@ LENGTHS = {
     "kmac256": lambda length: kmac256(b"", b"", length),
     "kmacxof256": lambda length: kmacxof256(b"", b"", length),
     "give": lambda length: Session.cshake256().give(length),
-    "draw": lambda length: seeded().draw(length),
+    "draw": lambda length: seeded(Generator()).draw(length),
+    "draw, KMAC": lambda length: seeded(KmacGenerator()).draw(length),
     "seal": lambda length: seal(bytes(32), b"", b"", b"", length),
 }
 
 
-def seeded() -> Generator:
-    generator = Generator()
+def seeded(generator: EitherGenerator) -> EitherGenerator:
     generator.seed(b"")
     return generator
 

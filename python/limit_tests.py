@@ -2,9 +2,10 @@
 
 import pickle
 import unittest
-from typing import Any, Callable
+from typing import Any, Callable, List
 
-from hailfeather import Generator, Refusal, Session, cshake256, kmac256, kmacxof256, open_sealed, plan, seal
+from hailfeather import Generator, KmacGenerator, Refusal, Session, cshake256, kmac256, kmacxof256, open_sealed, plan, seal
+from hailfeather.generator import EitherGenerator
 from hailfeather.refusal import FILE, WORDS
 
 MOST = 16_777_216
@@ -81,16 +82,20 @@ class Limits(unittest.TestCase):
             self.refused("seal", 5, seal, KEY, b"", bytes(text), bytes(label + 1))
             self.refused("open", 5, open_sealed, KEY, b"", bytes(text + 1), bytes(32), bytes(label))
 
-    def test_generator(self) -> None:
-        generator = Generator()
+    def test_generators(self) -> None:
+        self.generator(Generator(), 484, [0, 3, 6, 241_980])
+        self.generator(KmacGenerator(), 485, [0, 4, 8, 322_640])
+
+    def generator(self, generator: EitherGenerator, seeding: int, draws: List[int]) -> None:
+        """A fresh generator, with the counts of its longest seeding and of draws of no bytes, of a piece, of one byte more and of the most."""
         self.refused("draw", 1, generator.draw, 0)
         self.refused("seed", 3, generator.seed, bytes(65_537), bytes(85))
         self.refused("seed", 5, generator.seed, bytes(65_537), bytes(84))
         self.refused("draw", 1, generator.draw, 1)
-        self.assertEqual(generator.seed(bytes(65_536), bytes(84)), 484)
+        self.assertEqual(generator.seed(bytes(65_536), bytes(84)), seeding)
         self.refused("draw", 3, generator.draw, MOST + 1, bytes(85))
         self.refused("draw", 6, generator.draw, MOST + 1, bytes(84))
-        self.assertEqual([generator.draw(length, bytes(84)).runs for length in (0, 208, 209, MOST)], [0, 3, 6, 241_980])
+        self.assertEqual([generator.draw(length, bytes(84)).runs for length in (0, 208, 209, MOST)], draws)
 
     def test_plans(self) -> None:
         widest = plan.write([2_097_151] * 4_096)

@@ -2,15 +2,16 @@
 
 import copy
 import io
+import itertools
 import pickle
 import shutil
 import threading
 import unittest
 
-from hailfeather import Generator, Refusal, Session, cshake256, kmacxof256, plan
-from hailfeather.structs import GeneratorState
+from hailfeather import Generator, KmacGenerator, Refusal, Session, cshake256, kmacxof256, plan
 
 MOST = 16_777_216
+GENERATORS = (Generator, KmacGenerator)
 
 
 class Sessions(unittest.TestCase):
@@ -62,37 +63,37 @@ class Sessions(unittest.TestCase):
 
 class Generators(unittest.TestCase):
     def test_refused_as_before(self) -> None:
-        first, second = Generator(), Generator()
-        first.seed(b"seed")
-        second.seed(b"seed")
-        for refused in (lambda: first.draw(MOST + 1), lambda: first.draw(1, bytes(85)), lambda: first.seed(bytes(65_537))):
-            self.assertRaises(Refusal, refused)
-        self.assertEqual(first.draw(0), b"")
-        self.assertEqual(first.draw(100), second.draw(100))
-        self.assertNotEqual(first.draw(100), first.draw(100))
+        for first, second in [(kind(), kind()) for kind in GENERATORS]:
+            first.seed(b"seed")
+            second.seed(b"seed")
+            for refused in (lambda: first.draw(MOST + 1), lambda: first.draw(1, bytes(85)), lambda: first.seed(bytes(65_537))):
+                self.assertRaises(Refusal, refused)
+            self.assertEqual(first.draw(0), b"")
+            self.assertEqual(first.draw(100), second.draw(100))
+            self.assertNotEqual(first.draw(100), first.draw(100))
 
     def test_never_copied(self) -> None:
-        for copied in (copy.copy, copy.deepcopy, pickle.dumps):
-            self.assertRaisesRegex(TypeError, "cannot be copied", copied, Generator())
+        for kind, copied in itertools.product(GENERATORS, (copy.copy, copy.deepcopy, pickle.dumps)):
+            self.assertRaisesRegex(TypeError, "cannot be copied", copied, kind())
 
     def test_closed(self) -> None:
-        generator = Generator()
-        generator.seed(b"seed")
-        held = generator._state()
-        generator.close()
-        self.assertEqual(bytes(held), bytes(GeneratorState()))
-        for call in (lambda: generator.seed(b""), lambda: generator.draw(1)):
-            self.assertRaisesRegex(ValueError, "the generator is closed", call)
+        for generator in [kind() for kind in GENERATORS]:
+            generator.seed(b"seed")
+            held = generator._state()
+            generator.close()
+            self.assertEqual(bytes(held), bytes(type(held)()))
+            for call in (lambda: generator.seed(b""), lambda: generator.draw(1)):
+                self.assertRaisesRegex(ValueError, "the generator is closed", call)
 
     def test_threads_draw_different_bytes(self) -> None:
-        generator, drawn = Generator(), []
-        generator.seed(b"seed")
-        threads = [threading.Thread(target=lambda: drawn.extend(generator.draw(100_000) for _ in range(8))) for _ in range(4)]
-        for thread in threads:
-            thread.start()
-        for thread in threads:
-            thread.join()
-        self.assertEqual((len(drawn), len(set(drawn))), (32, 32))
+        for generator, drawn in [(kind(), []) for kind in GENERATORS]:
+            generator.seed(b"seed")
+            threads = [threading.Thread(target=lambda: drawn.extend(generator.draw(100_000) for _ in range(8))) for _ in range(4)]
+            for thread in threads:
+                thread.start()
+            for thread in threads:
+                thread.join()
+            self.assertEqual((len(drawn), len(set(drawn))), (32, 32))
 
 
 class Walks(unittest.TestCase):

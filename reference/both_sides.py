@@ -131,24 +131,34 @@ def counts():
     ]
 
 
-def draws():
-    """The counts of draws, and a draw of 20 that is not two of 10."""
-    seeded = generator.seed(generator.Generator(), b"", b"")[2]
+def draws(title, kind, most_seed, seeding, piece):
+    """Of one generator the counts of seedings, on both sides of the longest seed that leaves a block unfilled, and of draws; a draw of 20 is not two of 10."""
+    fresh = generator.Generator(kind)
+    _, runs, seeded = generator.seed(fresh, b"", b"")
     first = generator.draw(seeded, b"", 10)
     second = generator.draw(first[3], b"", 10)
     whole = generator.draw(seeded, b"", 20)
-    return [
-        ("draw of 208", generator.draw(seeded, b"", 208)[1], 3),
-        ("draw of 209", generator.draw(seeded, b"", 209)[1], 6),
+    rows = [
+        ("empty seed", runs, seeding),
+        (f"seed of {most_seed}", generator.seed(fresh, bytes(most_seed), b"")[1], seeding),
+        (f"seed of {most_seed + 1}", generator.seed(fresh, bytes(most_seed + 1), b"")[1], seeding + 1),
+        ("draw of 208", generator.draw(seeded, b"", 208)[1], piece),
+        ("draw of 209", generator.draw(seeded, b"", 209)[1], 2 * piece),
         ("draw of 0", generator.draw(seeded, b"", 0), (0, 0, b"", seeded)),
-        ("additional input of 84", generator.draw(seeded, bytes(84), 208)[:2], (0, 3)),
+        ("additional input of 84", generator.draw(seeded, bytes(84), 208)[:2], (0, piece)),
         ("additional input of 85", generator.draw(seeded, bytes(85), 208), (3, 0, None, seeded)),
         ("two draws of 10 are one of 20", first[2] + second[2] == whole[2], False),
     ]
+    return [(f"{title}, {row}", found, expected) for row, found, expected in rows]
+
+
+def generators():
+    """The two generators."""
+    return draws("cSHAKE generator", generator.CSHAKE, 134, 2, 3) + draws("KMAC generator", generator.KMAC, 132, 3, 4)
 
 
 def main():
-    rows = encodings() + plans() + walks_and_writing() + halls() + hall_limits() + counts() + draws()
+    rows = encodings() + plans() + walks_and_writing() + halls() + hall_limits() + counts() + generators()
     wrong = [(title, found, expected) for title, found, expected in rows if found != expected]
     for title, found, expected in wrong:
         print(f"{title}: expected {expected}, the reference gives {found}")

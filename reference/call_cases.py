@@ -53,7 +53,7 @@ def in_words(numbers):
 
 
 class Cases:
-    """The cases of the three families, each with what it writes: calls that keep no state, sessions, and the generator."""
+    """The cases of the three families, each with what it writes: calls that keep no state, sessions, and the generators."""
 
     def __init__(self):
         self.blocks = {"single": Block(4), "session": Block(2), "generator": Block(2)}

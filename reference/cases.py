@@ -74,7 +74,7 @@ def check_open(case):
 
 
 def check_generator(case):
-    state, found = generator.Generator(), []
+    state, found = generator.Generator(generator.CSHAKE), []
     for place, call in enumerate(case["calls"]):
         if call["call"] == "seed":
             answer = generator.seed(state, data(call["seed"]), data(call["personalisation"]))

@@ -1,16 +1,16 @@
-"""Demand 3 on many awkward arguments: calls and seedings fed alike had equal arguments that count.
+"""Demand 3 on many awkward arguments: calls fed alike had equal arguments that count, and so had seedings, of one generator or of both.
 
     python3 reference/fed_alike.py
 
-Names, keys, customisations, messages and seeds are chosen so that a careless joining of fields would
-make two of them one. Prints how many calls and seedings are fed differently, or each pair fed alike
-and exit status 1.
+Names, keys, customisations, messages and seeds are chosen so that a careless joining of fields would make two of them one. Each seeding is also held beside the
+call that it is made of, which has to be fed like it, and beside calls of KMAC256 with the same key, customisation and message, none of which may be. Prints how
+many calls and seedings are fed differently, or each pair that is fed otherwise than it should be and exit status 1.
 """
 
 import sys
 from itertools import product
 
-from generator import fed_seed
+from generator import CSHAKE, KMAC, Generator, encode, fed_seed
 from sp800_185 import bytepad, encode_string, fed_cshake256, fed_kmac256, fed_kmacxof256, right_encode
 
 STRINGS = [b"", b"\x00", b"\x01", b"\x00\x01", b"\x01\x00", b"K", b"KMAC", b"KMAC\x01\x00"]
@@ -37,12 +37,33 @@ def calls():
             yield fed_kmac256(key, message, length, custom), ("KMAC256", key, custom, message, length)
 
 
-def seedings():
-    """(padded bytes, the arguments that count) of seedings."""
+def seedings(title, kind):
+    """(padded bytes, the arguments that count) of one generator's seedings."""
     keys = [bytes(64), b"\x01" + bytes(63), bytes(63) + b"\x01"]
     personalisations = [text for text in STRINGS if len(text) <= 84] + [bytes(84), b"\x01\x01"]
     for key, seed, personalisation in product(keys, sorted({*MESSAGES, *STRINGS}), personalisations):
-        yield fed_seed(key, seed, personalisation), (key, seed, personalisation)
+        yield fed_seed(Generator(kind, key), seed, personalisation), (title, key, seed, personalisation)
+
+
+def call_of(title, key, seed, personalisation):
+    """The padded bytes of the call that a seeding is made of."""
+    message = seed + encode(personalisation)
+    if title == "cSHAKE generator":
+        return fed_cshake256(message, b"cSHAKE-DRNG seed", key)
+    return fed_kmacxof256(key, message, b"KMAC-DRNG seed")
+
+
+def beside_calls(feeds):
+    """A line for each seeding that is not fed like its call, or is fed like a call of KMAC256."""
+    kmac256 = set()
+    for _, (_, key, seed, personalisation) in feeds:
+        message = seed + encode(personalisation)
+        kmac256 |= {fed_kmac256(key, message, length, b"KMAC-DRNG seed") for length in (*LENGTHS, 64)}
+    for fed, arguments in feeds:
+        if fed != call_of(*arguments):
+            yield f"not fed like its call: {arguments}"
+        if fed in kmac256:
+            yield f"fed like a call of KMAC256: {arguments}"
 
 
 def fed_alike(feeds):
@@ -56,13 +77,15 @@ def fed_alike(feeds):
 
 
 def main():
+    feeds = [*seedings("cSHAKE generator", CSHAKE), *seedings("KMAC generator", KMAC)]
     call_feeds, call_pairs = fed_alike(calls())
-    seeding_feeds, seeding_pairs = fed_alike(seedings())
-    for pair in call_pairs + seeding_pairs:
-        print("fed alike:", *pair)
-    if call_pairs or seeding_pairs:
+    seeding_feeds, seeding_pairs = fed_alike(feeds)
+    wrong = [f"fed alike: {one} {other}" for one, other in call_pairs + seeding_pairs] + list(beside_calls(feeds))
+    for line in wrong:
+        print(line)
+    if wrong:
         return 1
-    print(f"{call_feeds} calls and {seeding_feeds} seedings are fed differently")
+    print(f"{call_feeds} calls and {seeding_feeds} seedings are fed differently, and each seeding like the call that it is made of")
     return 0
 
 

@@ -34,8 +34,7 @@ TAG_LENGTH = [(16, 0), (64, 0), (0, 7), (15, 7), (65, 7)]
 SEALED, SEALED_TAG = sealing.seal(bytes(32), b"", b"text", b"label", 4, 64)[2:]
 TAG = [(SEALED_TAG, 0), (SEALED_TAG[:16], 0), (SEALED_TAG[:15], 7), (b"", 7), (bytes(65), 7), (bytes(16), 8)]
 OPEN_LABEL = [(b"label", 0), (b"other", 8), (OVER, 5)]
-FRESH = generator.Generator()
-SEEDED = generator.seed(FRESH, b"", b"")[2]
+GENERATORS = {"cSHAKE generator": generator.CSHAKE, "KMAC generator": generator.KMAC}
 GOOD_PLAN, LONG_PLAN = bytes.fromhex("0307AC0200"), bytes(65_537)
 LENT_PLAN = [(GOOD_PLAN, 0), (b"", 9), (b"\x01", 9), (b"\x00\x00", 9), (LONG_PLAN, 5)]
 CHUTE = [(1, 0), (3, 0), (0, 10), (4, 10), (2**32 - 1, 10)]
@@ -74,6 +73,17 @@ def empty_halls_length(count, more):
     return hall.length(count + more, [1] * count, [0] * count)
 
 
+def generator_entries(title, kind):
+    """The entries of one generator, as below."""
+    fresh = generator.Generator(kind)
+    seeded = generator.seed(fresh, b"", b"")[2]
+    return {
+        f"{title}, seed": (partial(generator.seed, seeded), (0, seeded), [SEED, SHORT]),
+        f"{title}, draw": (partial(generator.draw, seeded), (0, None, seeded), [SHORT, OUTPUT]),
+        f"{title}, draw, not seeded": (partial(generator.draw, fresh), (0, None, fresh), [[(b"", 1), (bytes(85), 1)], [(0, 1)]]),
+    }
+
+
 # Entry: (call, the answer after the number of a refusal, the values of its arguments).
 ONE_SHOT = {
     "cSHAKE256": (cshake256, (0, None), [MESSAGE, OUTPUT, NAME, STRING]),
@@ -83,9 +93,7 @@ ONE_SHOT = {
     "open": (opened, (0, None), [SEALING_KEY, OPEN_LABEL, TAG, TEXT_OUTPUT]),
 }
 STATES = {
-    "seed": (partial(generator.seed, SEEDED), (0, SEEDED), [SEED, SHORT]),
-    "draw": (partial(generator.draw, SEEDED), (0, None, SEEDED), [SHORT, OUTPUT]),
-    "draw, not seeded": (partial(generator.draw, FRESH), (0, None, FRESH), [[(b"", 1), (bytes(85), 1)], [(0, 1)]]),
+    **{name: entry for title, kind in GENERATORS.items() for name, entry in generator_entries(title, kind).items()},
     "start of cSHAKE256": (sessions.start_cshake256, (NOT_STARTED,), [NAME, STRING]),
     "start of KMACXOF256": (sessions.start_kmacxof256, (NOT_STARTED,), [KMAC_KEY, STRING]),
     "take": (partial(sessions.take, STARTED), (STARTED,), [[*MESSAGE, (bytes(LIMIT), 0)]]),

@@ -1,5 +1,5 @@
-"""Hailfeather from Python: Keccak-p[1600, 24], cSHAKE256, KMAC256 and KMACXOF256, running sessions, sealing and opening, the cSHAKE generator,
-chute plans and hall plans (the submodules `plan` and `hall`), all by the proved library.
+"""Hailfeather from Python: Keccak-p[1600, 24], cSHAKE256, KMAC256 and KMACXOF256, running sessions, sealing and opening, the cSHAKE generator
+and the KMAC generator, chute plans and hall plans (the submodules `plan` and `hall`), all by the proved library.
 
 A call that the library refuses raises Refusal, a ValueError with the number and its words. Bytes may be bytes, a bytearray or a memoryview; none
 may be changed by another thread while a call reads it.
@@ -15,7 +15,7 @@ The shared object is the one that the environment variable HAILFEATHER_LIBRARY n
 """
 
 from . import hall, plan
-from .generator import Generator
+from .generator import Generator, KmacGenerator
 from .hashes import cshake256, keccak_p, kmac256, kmacxof256
 from .lending import Output
 from .refusal import Refusal
@@ -24,6 +24,7 @@ from .sessions import Session
 
 __all__ = [
     "Generator",
+    "KmacGenerator",
     "Output",
     "Refusal",
     "Sealed",

@@ -23,7 +23,7 @@ class Secret:
     def _state(self) -> Any:
         """The struct, unless it is closed."""
         if self._held is None:
-            raise ValueError(f"the {type(self).__name__.lower()} is closed")
+            raise ValueError(f"the {self._field} is closed")
         return self._held
 
     def _put(self, state: Optional[Structure]) -> None:

@@ -42,6 +42,18 @@ class Draw(Structure):
     _fields_ = [("generator", GeneratorState), ("runs", c_size_t), ("number", c_uint8)]
 
 
+class KmacGeneratorState(Structure):
+    """hf_kmac_generator"""
+
+    _fields_ = GeneratorState._fields_
+
+
+class KmacDraw(Structure):
+    """hf_kmac_draw"""
+
+    _fields_ = [("generator", KmacGeneratorState), ("runs", c_size_t), ("number", c_uint8)]
+
+
 class Rows(Structure):
     """hf_rows"""
 

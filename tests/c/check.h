@@ -37,7 +37,7 @@ void check_samples(const char *vectors);
 void check_hashes(void);
 void check_sessions(void);
 void check_seals(void);
-void check_generator(void);
+void check_generators(void);
 void check_plans(void);
 void check_halls(void);
 void check_hall_limits(void);

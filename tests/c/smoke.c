@@ -54,8 +54,8 @@ int main(int count, char **words) {
     report("sessions");
     check_seals();
     report("sealing and opening");
-    check_generator();
-    report("the generator");
+    check_generators();
+    report("the generators");
     check_plans();
     report("chute plans");
     check_halls();

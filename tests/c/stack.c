@@ -27,6 +27,9 @@ static void stepping(void) { number = hf_session_give(hf_session_take(hf_session
 static void sealing(void) { number = hf_seal(key, 32, label, 84, text, 300, label, 84, out, 300, tag, 64).number; }
 static void opening(void) { number = hf_open(key, 32, label, 84, out, 300, label, 84, opened, 300, tag, 64).number; }
 static void drawing(void) { number = hf_generator_draw(hf_generator_seed(hf_generator_fresh(), text, 300, label, 84).generator, key, 32, out, 300).number; }
+static void drawing_kmac(void) {
+    number = hf_kmac_generator_draw(hf_kmac_generator_seed(hf_kmac_generator_fresh(), text, 300, label, 84).generator, key, 32, out, 300).number;
+}
 static void reading(void) { number = hf_plan_read(plan, sizeof plan).number; }
 static void asking(void) { number = hf_plan_destination(plan, sizeof plan, 3).number; }
 static void looking(void) { number = hf_plan_row(plan, sizeof plan, plan, sizeof plan, 3).number; }
@@ -59,9 +62,9 @@ void check_stack(void) {
     return; /* the sanitizer's own frames are larger */
 #endif
     /* sealing comes before opening, which opens what it made */
-    static void (*const works[])(void) = {permuting, cshake,        kmac,         kmacxof,      naming,          stepping,     sealing,
-                                          opening,   drawing,       reading,      asking,       looking,         measuring,    writing,
-                                          walking,   reading_halls, asking_halls, reading_into, measuring_halls, writing_halls};
+    static void (*const works[])(void) = {permuting, cshake,  kmac,          kmacxof,      naming,       stepping,        sealing,
+                                          opening,   drawing, drawing_kmac,  reading,      asking,       looking,         measuring,
+                                          writing,   walking, reading_halls, asking_halls, reading_into, measuring_halls, writing_halls};
     uint8_t *stack = aligned_alloc(4096, STACK);
     EXPECT(stack != NULL);
     if (stack == NULL) return;

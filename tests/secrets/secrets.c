@@ -6,7 +6,7 @@
 #include <string.h>
 #include <valgrind/memcheck.h>
 
-#include "../../include/hailfeather.h"
+#include "../c/either_generator.h"
 
 enum { LENGTHS = 7, TAGS = 4 };
 static const size_t lengths[LENGTHS] = {0, 1, 8, 135, 136, 137, 700};
@@ -87,12 +87,12 @@ static void seals(size_t n, size_t t)
     }
 }
 
-static void generator(size_t n)
+static void generator(const either_generator *of, const char *seeding, const char *drawing, size_t n)
 {
-    hf_draw draw = hf_generator_seed(hf_generator_fresh(), text, n, label, n % 84);
-    noted("hf_generator_seed", 0, draw.number, HF_DONE);
-    draw = hf_generator_draw(draw.generator, label, n % 84, made, n);
-    noted("hf_generator_draw", 0, draw.number, HF_DONE);
+    hf_draw draw = of->seed(of->fresh(), text, n, label, n % 84);
+    noted(seeding, 0, draw.number, HF_DONE);
+    draw = of->draw(draw.generator, label, n % 84, made, n);
+    noted(drawing, 0, draw.number, HF_DONE);
 }
 
 int main(int count, char **words)
@@ -105,7 +105,8 @@ int main(int count, char **words)
         secrets();
         hashes(lengths[i]);
         sessions(lengths[i]);
-        generator(lengths[i]);
+        generator(&cshake_generator, "hf_generator_seed", "hf_generator_draw", lengths[i]);
+        generator(&kmac_generator, "hf_kmac_generator_seed", "hf_kmac_generator_draw", lengths[i]);
         known();
         for (size_t j = 0; j < TAGS; j++)
             seals(lengths[i], tags[j]);

@@ -1,4 +1,4 @@
-// A generator's state as C has it (docs/RULES.md, 'Generator'): a plain struct, passed by value and handed back.
+// A generator's state as C has it (docs/RULES.md, 'Generators'): a plain struct, passed by value and handed back.
 ghost use mathlib.Core.Path.{_≡_};
 ghost use Rattle.drng.specs.State.{freshGenerator};
 ghost use Rattle.c_generator_state.specs.Generator.{importedGenerator, exportedGenerator, exportedAnswer};

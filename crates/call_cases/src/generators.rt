@@ -1,7 +1,9 @@
-// The generator: f is a fresh one, s seeds it, d draws; number, runs and key are written, and of a draw the output. D writes a checksum of the output.
+// The generators: f is a fresh one, s seeds the cSHAKE generator, d draws from it; number, runs and key are written, and of a draw the output. D writes a
+// checksum of the output. k, m and M do the same with the KMAC generator.
 use crate::case;
 use drng::Generator;
 use drng::GeneratorAnswer;
+use seeding::Drng;
 
 fn unwritten() -> [u8; 524288] {
     [0xaau8; 524288]
@@ -19,6 +21,14 @@ pub fn run(input: &[u8], from: usize, cases: usize) {
     }
 }
 
+// The generator that a case is of.
+fn drng_of(letter: u8) -> Drng {
+    match letter {
+        b'k' | b'm' | b'M' => Drng::Kmac,
+        _ => Drng::Cshake,
+    }
+}
+
 fn answered(input: &[u8], it: &[u8], generator: Generator) -> Generator {
     let letter = testing::byte_at(it, 0);
     let first = case::string(input, it, case::FIRST);
@@ -28,7 +38,10 @@ fn answered(input: &[u8], it: &[u8], generator: Generator) -> Generator {
             generator
         }
         b'f' => drng::fresh(),
-        b's' => printed(generator::seed(generator, first, case::string(input, it, case::SECOND))),
+        b's' | b'k' => {
+            let second = case::string(input, it, case::SECOND);
+            printed(generator::seed(drng_of(letter), generator, first, second))
+        }
         _ => {
             let mut out = unwritten();
             into(it, letter, first, generator, &mut out)
@@ -55,11 +68,12 @@ fn into(
     if buffer.len() < n {
         return generator;
     }
-    let after = printed(generator::draw(generator, additional, &mut buffer[..n]));
-    if letter == b'd' {
-        printing::print_bytes(testing::first(buffer, n));
-    } else {
-        case::line(letter, b"", testing::add_bytes(0, buffer));
+    let after = printed(generator::draw(drng_of(letter), generator, additional, &mut buffer[..n]));
+    match letter {
+        b'd' | b'm' => printing::print_bytes(testing::first(buffer, n)),
+        _ => {
+            case::line(letter, b"", testing::add_bytes(0, buffer));
+        }
     }
     after
 }

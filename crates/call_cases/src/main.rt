@@ -1,7 +1,7 @@
-// Cases of every entry for hashing, sessions, sealing and the generator, read from standard input. What stands there, and what must be written for it, is
+// Cases of every entry for hashing, sessions, sealing and the generators, read from standard input. What stands there, and what must be written for it, is
 // worked out by reference/call_cases.py.
 //
-// The input is three blocks, of calls that keep no state, of sessions and of the generator; the first two are filled up to the buffer's length. A block begins
+// The input is three blocks, of calls that keep no state, of sessions and of the generators; the first two are filled up to the buffer's length. A block begins
 // with how many cases it has, in a word of four bytes, lowest byte first. Then come the cases, and then the bytes of their strings. A case is a letter, a word
 // and two strings, each as two words: where in the block it begins, and its length; one that keeps no state has two strings and a word more.
 mod case; // case.rt: the parts of a case, and what is written for every family

@@ -2,8 +2,8 @@
 -- definition and law that goes by `Function` or `Call`.
 use mathlib.Core.Path.{_≡_, refl, ap, _∙_, sym, pathJ}
 use mathlib.Core.Bool.{cond}
-use mathlib.Core.List.{[]}
-use Prim.Native.Nat.{_*_}
+use mathlib.Core.List.{List, []}
+use Prim.Native.Nat.{ℕ, _*_}
 use native.Mathlib.Omega.{arith}
 use borrow.Author.Tests.{ne-eqb, eqb-false}
 use lib.Dec.{ltb, eqb}
@@ -23,10 +23,15 @@ use Rattle.calls.specs.Laws.Input.{fedBytes-fixes}
 use Rattle.calls.specs.Laws.Fed.{kmacMessage-fixes}
 
 -- the function whose accepted calls have this input: KMAC's own name is refused to cSHAKE256, and KMAC256 encodes no output length of 0
-functionOf : Input → Function
+unfoldable pub functionOf : Input → Function
 functionOf i = cond (sameBytes (i .name) KMAC) (cond (eqb (lastEncoded (i .message)) 0) KMACXOF256 KMAC256) cSHAKE256
 
-functionOf-input : {f : Function} (c : Call f) → Accepted c → functionOf (input c) ≡ f
+-- KMACXOF256 is known whether a call is accepted or not
+pub functionOf-xof : (K X : List ℕ) (n : ℕ) (S : List ℕ) → functionOf (input (kmacxof256 K X n S)) ≡ KMACXOF256
+unfolding functionOf
+functionOf-xof K X n S = rw lastEncoded-of
+
+pub functionOf-input : {f : Function} (c : Call f) → Accepted c → functionOf (input c) ≡ f
 unfolding functionOf startRefusal
 functionOf-input (cshake256 X n N S) h =
     let long = firstOf-passed (over (length N) maxName 3) _ (start-accepted (cshake256 X n N S) h) in
@@ -35,7 +40,7 @@ functionOf-input (cshake256 X n N S) h =
 functionOf-input (kmac256 K X n S) h =
     let some = test-passed (eqb n 0) 5 0 (firstOf-passed (over n maxOutput 6) _ (output-accepted (kmac256 K X n S) h) .1) in
     rw (lastEncoded-of, ne-eqb (8 * n) 0 (λ z. eqb-false n 0 (some .0) (omega arith)))
-functionOf-input (kmacxof256 K X n S) h = rw lastEncoded-of
+functionOf-input (kmacxof256 K X n S) h = functionOf-xof K X n S
 
 -- of one function, the input fixes the arguments
 input-fixes : {f : Function} (a b : Call f) → input a ≡ input b → arguments a ≡ arguments b
@@ -61,11 +66,16 @@ inputBy-arguments (cshake256 X n N S) = refl
 inputBy-arguments (kmac256 K X n S) = refl
 inputBy-arguments (kmacxof256 K X n S) = refl
 
+-- calls that are fed alike are of one function
+pub alike-function : {f g : Function} (a : Call f) (b : Call g) → functionOf (input a) ≡ f → functionOf (input b) ≡ g → fed a ≡ fed b → f ≡ g
+unfolding fed
+alike-function a b p q e = sym p ∙ ap functionOf (fedBytes-fixes (input a) (input b) e) ∙ q
+
 alike-arguments : {f g : Function} (a : Call f) (b : Call g) → Accepted a → Accepted b → fed a ≡ fed b → arguments a ≡ arguments b
 unfolding fed
 alike-arguments {f} {g} a b ha hb e =
     let i : input a ≡ input b = fedBytes-fixes (input a) (input b) e in
-    let p : f ≡ g = sym (functionOf-input a ha) ∙ ap functionOf i ∙ functionOf-input b hb in
+    let p : f ≡ g = alike-function a b (functionOf-input a ha) (functionOf-input b hb) e in
     pathJ (λ h q. (c : Call h) → input a ≡ input c → arguments a ≡ arguments c) (input-fixes a) p b i
 
 arguments-alike : {f g : Function} (a : Call f) (b : Call g) → arguments a ≡ arguments b → fed a ≡ fed b

@@ -83,7 +83,7 @@ ending cSHAKE256 n = []
 ending KMAC256 n = rightEncode (8 * n)
 ending KMACXOF256 n = rightEncode 0
 
--- Running sessions
+-- Extendable functions
 
 -- the extendable function that a start begins, in one call or piecemeal
 abbrev pub extendable : Start → Function

@@ -1,8 +1,8 @@
--- From the tests on the way and the bytes at the end to what a seeding and a draw answer, of any generator.
+-- From the tests on the way and the bytes at the end to what a seeding and a draw answer, of either generator.
 use mathlib.Core.Path.{_≡_, refl, sym, ap, _∙_}
 use mathlib.Core.Bool.{Bool, true, false}
 use mathlib.Core.List.{List}
-use Prim.Native.Nat.{ℕ, zero, suc, _*_, _≤_}
+use Prim.Native.Nat.{ℕ, zero, suc, _≤_}
 use native.Mathlib.Omega.{arith}
 use borrow.Author.Tests.{ltb-false}
 use lib.Dec.{ltb}
@@ -10,12 +10,15 @@ use lib.ListN.{length}
 use Rattle.answers.specs.Laws.{test-passed}
 use Rattle.answers.specs.Done.{ifDone}
 use Rattle.calls.specs.Limits.{maxAdditional, maxOutput}
-use Rattle.seeding.specs.Seeding.{Seeding, seedRefusal}
-use Rattle.pieces.specs.Pieces.{Generated, pieceCount, drawn}
+use Rattle.calls.specs.Count.{runs}
+use Rattle.seeding.specs.declared.Drng.{Drng}
+use Rattle.seeding.specs.Seeding.{Seeding, seedCall, seedRefusal}
+use Rattle.pieces.specs.Pieces.{Generated, drawn}
 use Rattle.drng.specs.declared.Generator.{Generator}
 use Rattle.drng.specs.declared.GeneratorAnswer.{GeneratorAnswer}
 use Rattle.drng.specs.State.{refused, accepted, answerWith}
-use Rattle.drng.specs.Drng.{Drng, drawRefusal, seeding, drawRuns, seedAnswer, drawAnswer, drawOutput}
+use Rattle.drng.specs.Calls.{newKey, generate}
+use Rattle.drng.specs.Drng.{drawRefusal, seeding, drawRuns, seedAnswer, drawAnswer, drawOutput}
 
 -- a number other than 0: no runs, and the state as it was
 refused-with : (k n : ℕ) (key : List ℕ) (before : Generator) → (k ≡ 0 → ⊥) → refused k before ≡ answerWith k n key before
@@ -36,12 +39,12 @@ module _ (d : Drng) (g : Generator) where
     pub seed-refused : (k : ℕ) → k ≡ seedRefusal s → (k ≡ 0 → ⊥) → refused k g ≡ seedAnswer d g x p
     unfolding seedAnswer
     seed-refused k e some =
-        refused-with k (d .seedRuns s) (d .newKey s) g some ∙ ap (λ (j : ℕ). answerWith j (d .seedRuns s) (d .newKey s) g) e
+        refused-with k (runs (seedCall d s)) (newKey d s) g some ∙ ap (λ (j : ℕ). answerWith j (runs (seedCall d s)) (newKey d s) g) e
 
-    pub seed-accepted : (r : ℕ) (key : List ℕ) → seedRefusal s ≡ 0 → r ≡ d .seedRuns s → key ≡ d .newKey s → accepted r key ≡ seedAnswer d g x p
+    pub seed-accepted : (r : ℕ) (key : List ℕ) → seedRefusal s ≡ 0 → r ≡ runs (seedCall d s) → key ≡ newKey d s → accepted r key ≡ seedAnswer d g x p
     unfolding seedAnswer
     seed-accepted r key ok counted given =
-        (λ i. accepted (counted i) (given i)) ∙ sym (ap (λ (j : ℕ). answerWith j (d .seedRuns s) (d .newKey s) g) ok)
+        (λ i. accepted (counted i) (given i)) ∙ sym (ap (λ (j : ℕ). answerWith j (runs (seedCall d s)) (newKey d s) g) ok)
 
   -- ---- draws
 
@@ -50,7 +53,7 @@ module _ (d : Drng) (g : Generator) where
     number = drawRefusal (g .seeded) (length a) (length before)
 
     abbrev all : Generated
-    all = drawn (d .generate a) (length before) (g .key)
+    all = drawn (generate d a) (length before) (g .key)
 
     -- what a draw answers, and what it leaves in the lent output
     pub record Draws (r : GeneratorAnswer) (out : List ℕ) : Type 0 where
@@ -62,17 +65,17 @@ module _ (d : Drng) (g : Generator) where
     draw-refused k e some =
         record {
           answer =
-              refused-with k (drawRuns d (length before)) (all .key) g some
-              ∙ ap (λ (j : ℕ). answerWith j (drawRuns d (length before)) (all .key) g) e;
+              refused-with k (drawRuns d a (length before) (g .key)) (all .key) g some
+              ∙ ap (λ (j : ℕ). answerWith j (drawRuns d a (length before) (g .key)) (all .key) g) e;
           output = unwritten k (all .stream) before some ∙ ap (λ (j : ℕ). ifDone j (all .stream) before) e;
         }
 
-    pub draw-accepted : (r : ℕ) (key out : List ℕ) → number ≡ 0 → r ≡ drawRuns d (length before) → key ≡ all .key → out ≡ all .stream
+    pub draw-accepted : (r : ℕ) (key out : List ℕ) → number ≡ 0 → r ≡ drawRuns d a (length before) (g .key) → key ≡ all .key → out ≡ all .stream
         → Draws (accepted r key) out
     unfolding drawAnswer drawOutput
     draw-accepted r key out ok counted moved given =
         record {
-          answer = (λ i. accepted (counted i) (moved i)) ∙ sym (ap (λ (j : ℕ). answerWith j (drawRuns d (length before)) (all .key) g) ok);
+          answer = (λ i. accepted (counted i) (moved i)) ∙ sym (ap (λ (j : ℕ). answerWith j (drawRuns d a (length before) (g .key)) (all .key) g) ok);
           output = given ∙ sym (ap (λ (j : ℕ). ifDone j (all .stream) before) ok);
         }
 

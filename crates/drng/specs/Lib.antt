@@ -1,3 +1,6 @@
--- The state and what a step hands back; then seedings and draws of any generator.
+-- The state and what a seeding or a draw hands back; what keys and pieces are made of; seedings and draws; what a draw counts; facts.
 pub mod State
+pub mod Calls
 pub mod Drng
+pub mod Counts
+pub mod Facts

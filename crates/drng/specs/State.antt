@@ -1,4 +1,4 @@
--- A generator's state, and what a seeding or a draw hands back (docs/RULES.md, 'Generator' and 'Numbers').
+-- A generator's state, and what a seeding or a draw hands back (docs/RULES.md, 'Generators' and 'Numbers').
 use mathlib.Core.Bool.{true, false}
 use mathlib.Core.List.{List}
 use Prim.Native.Nat.{ℕ}
@@ -21,10 +21,10 @@ holding key = record { key = key; seeded = true }
 abbrev pub refused : ℕ → Generator → GeneratorAnswer
 refused k before = record { number = k; runs = 0; generator = before }
 
--- a step that is done in n runs
+-- a seeding or a draw that is done in n runs
 abbrev pub accepted : ℕ → (key : List ℕ) → GeneratorAnswer
 accepted n key = record { number = done; runs = n; generator = holding key }
 
--- the answer with the number k, where the step takes n runs and leaves the key
+-- the answer with the number k to a seeding or a draw that takes n runs and leaves the key
 abbrev pub answerWith : (k n : ℕ) → (key : List ℕ) → (before : Generator) → GeneratorAnswer
 answerWith k n key before = record { number = k; runs = ifDone k n 0; generator = ifDone k (holding key) before }

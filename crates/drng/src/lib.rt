@@ -1,5 +1,5 @@
-// What every generator of this kind has, whatever makes its keys and its stream (cSHAKE-DRNG, 1.1 and 1.2; docs/RULES.md, 'Generator'): the state, what a step
-// hands back, and what a draw is refused for. A state is passed by value and handed back.
+// What both generators have (cSHAKE-DRNG, 1.1, and KMAC-DRNG, 1.2; docs/RULES.md, 'Generators'): the state, what a seeding or a draw hands back, and what
+// a draw is refused for. What keys and pieces are made of stands in specs/. A state is passed by value and handed back.
 ghost use mathlib.Core.Path.{_≡_};
 ghost use Rattle.drng.specs.State.{freshGenerator, refused, accepted};
 ghost use Rattle.drng.specs.Drng.{drawRefusal};
@@ -49,7 +49,7 @@ pub fn refuse(number: u8, generator: Generator) -> GeneratorAnswer
     }
 }
 
-// A step that is done: its runs, and a seeded state with its key.
+// A seeding or a draw that is done: its runs, and a seeded state with its key.
 pub fn accept(runs: usize, key: [u8; KEY_BYTES]) -> GeneratorAnswer
     ensures { λ r. ⌜ r ≡ accepted runs key ⌝ }
 {

@@ -3,7 +3,7 @@
 mod hashes; // hashes.rt: the permutation and the hash functions
 mod sessions; // sessions.rt: running sessions
 mod seals; // seals.rt: sealing and opening
-mod generators; // generators.rt: the generator
+mod generators; // generators.rt: the two generators
 mod plans; // plans.rt: the chute plan
 mod halls; // halls.rt: the hall plan
 

@@ -1,10 +1,10 @@
 -- Each fact holds by computation, once the definitions are opened.
 use mathlib.Core.Path.{refl}
-use Rattle.pieces.specs.Pieces.{pieceCount, cut, keyAfter, streamOf, drawn}
+use Rattle.pieces.specs.Pieces.{pieceCount, cut, keyAfter, streamOf, drawn, totalRuns}
 use Rattle.pieces.specs.Facts.{PieceFactsHold}
 
 pub pieceFacts : PieceFactsHold
-unfolding pieceCount cut keyAfter streamOf drawn
+unfolding pieceCount cut keyAfter streamOf drawn totalRuns
 pieceFacts generate key =
     record {
       count0 = refl;
@@ -16,4 +16,5 @@ pieceFacts generate key =
       none = refl;
       twenty = refl;
       two = refl;
+      runs = λ runsFrom. refl;
     }

@@ -2,9 +2,9 @@
 -- computation.
 use mathlib.Core.Path.{_≡_}
 use mathlib.Core.List.{List, [], _++_}
-use Prim.Native.Nat.{ℕ}
+use Prim.Native.Nat.{ℕ, _+_}
 use lib.ListN.{take}
-use Rattle.pieces.specs.Pieces.{Generated, pieceCount, cut, drawn}
+use Rattle.pieces.specs.Pieces.{Generated, pieceCount, cut, drawn, totalRuns}
 
 pub record PieceFacts (generate : List ℕ → Generated) (key : List ℕ) : Type 0 where
   pub count0 : pieceCount 0 ≡ 0
@@ -20,6 +20,8 @@ pub record PieceFacts (generate : List ℕ → Generated) (key : List ℕ) : Typ
   -- 209 bytes: a piece, and the beginning of the next, from the key that the first left
   pub two : drawn generate 209 key
       ≡ record { key = generate (generate key .key) .key; stream = take 209 (generate key .stream ++ (generate (generate key .key) .stream ++ [])) }
+  -- the runs of two pieces: those of the piece from the key, and of the piece from the key that it left
+  pub runs : (runsFrom : List ℕ → ℕ) → totalRuns generate runsFrom 2 key ≡ runsFrom key + (runsFrom (generate key .key) + 0)
 
 abbrev pub PieceFactsHold : Type 0
 PieceFactsHold = (generate : List ℕ → Generated) (key : List ℕ) → PieceFacts generate key

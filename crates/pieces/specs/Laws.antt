@@ -8,7 +8,7 @@ use native.Mathlib.Omega.{arith}
 use borrow.Author.Tests.{lt-ltb, le-ltb}
 use lib.ListN.{length, take, length-append}
 use lib.Seq.{take-append-le, take-append-add, take-all, take-at, length-take-le}
-use Rattle.pieces.specs.Pieces.{Generated, pieceBytes, pieceCount, cut, keyAfter, streamOf, drawn}
+use Rattle.pieces.specs.Pieces.{Generated, pieceBytes, pieceCount, cut, keyAfter, streamOf, drawn, totalRuns}
 
 -- stream given before what a request hands back
 abbrev pub before : List ℕ → Generated → Generated
@@ -92,6 +92,14 @@ module _ (generate : List ℕ → Generated) where
       ap (λ (k : ℕ). streamOf generate k key) (suc-add m n)
       ∙ ap (λ (l : List ℕ). generate key .stream ++ l) (streamOf-add m n (generate key .key))
       ∙ sym (append-assoc (generate key .stream) (streamOf generate m (generate key .key)) (streamOf generate n (keyAfter generate m (generate key .key))))
+
+  -- where every piece from a key of one length takes k permutations, and leaves a key of that length
+  pub totalRuns-equal : (runsFrom : List ℕ → ℕ) (size k : ℕ) → ((key : List ℕ) → length key ≡ size → runsFrom key ≡ k)
+      → ((key : List ℕ) → length (generate key .key) ≡ size) → (m : ℕ) (key : List ℕ) → length key ≡ size → totalRuns generate runsFrom m key ≡ k * m
+  unfolding totalRuns
+  totalRuns-equal runsFrom size k each next zero key h = omega arith
+  totalRuns-equal runsFrom size k each next (suc m) key h =
+      (λ i. each key h i + totalRuns-equal runsFrom size k each next m (generate key .key) (next key) i) ∙ omega arith
 
 -- of a generator whose pieces are as long as the definition asks
 module _ (generate : List ℕ → Generated) (sized : (key : List ℕ) → length (generate key .stream) ≡ pieceBytes) where

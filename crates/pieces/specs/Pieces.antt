@@ -1,4 +1,4 @@
--- A request cut into pieces (cSHAKE-DRNG, 1.1.5 and 1.2.5; docs/RULES.md, 'Generator'), for any generator: `generate` makes one piece from a key.
+-- A request cut into pieces (cSHAKE-DRNG, 1.1.5, and KMAC-DRNG, 1.2.5; docs/RULES.md, 'Generators'), for any generator: `generate` makes one piece from a key.
 use mathlib.Core.Bool.{cond}
 use mathlib.Core.List.{List, [], _++_}
 use Prim.Native.Nat.{ℕ, zero, suc, _+_, _-_, _/_}
@@ -36,3 +36,8 @@ module _ (generate : List ℕ → Generated) where
   -- a request of n bytes
   unfoldable pub drawn : ℕ → List ℕ → Generated
   drawn n key = record { key = keyAfter (pieceCount n) key; stream = take n (streamOf (pieceCount n) key) }
+
+  -- the permutations of m pieces, where `runsFrom` has those of the piece that is made from a key
+  unfoldable pub totalRuns : (runsFrom : List ℕ → ℕ) → ℕ → List ℕ → ℕ
+  totalRuns runsFrom zero key = 0
+  totalRuns runsFrom (suc m) key = runsFrom key + totalRuns runsFrom m (generate key .key)

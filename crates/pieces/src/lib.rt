@@ -1,5 +1,5 @@
-// A request for stream cut into pieces of 208 bytes, the last one cut (cSHAKE-DRNG, 1.1.5; docs/RULES.md, 'Generator'). What makes a piece is a
-// generator's own; the definitions and the laws that a generator's loop is proved by stand in specs/.
+// A request for stream cut into pieces of 208 bytes, the last one cut (cSHAKE-DRNG, 1.1.5, and KMAC-DRNG, 1.2.5; docs/RULES.md, 'Generators'). What makes a
+// piece is a generator's own; the definitions and the laws that a generator's loop is proved by stand in specs/.
 ghost use mathlib.Core.Path.{_≡_};
 ghost use Rattle.pieces.specs.Pieces.{pieceCount, cut};
 

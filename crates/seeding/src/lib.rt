@@ -1,10 +1,18 @@
-// A seeding of the cSHAKE generator as the call that it is made of (cSHAKE-DRNG, 1.1.3; docs/RULES.md, 'Generator'): its definition and its laws stand in
-// specs/, and the code is what it is refused for.
+// A seeding of a generator as the call that it is made of (cSHAKE-DRNG, 1.1.3, and KMAC-DRNG, 1.2.3; docs/RULES.md, 'Generators'): its definition and its laws
+// stand in specs/, and the code is which generators there are, and what a seeding of either is refused for.
 ghost use mathlib.Core.Path.{_≡_};
 ghost use Rattle.seeding.specs.Seeding.{seedLengthsRefusal};
 use answers::DONE;
 use answers::INPUT_TOO_LONG;
 use answers::STRING_TOO_LONG;
+
+// The paper's two generators, by the function that each is made of.
+pub enum Drng {
+    // cSHAKE-DRNG: cSHAKE256.
+    Cshake,
+    // KMAC-DRNG: KMACXOF256.
+    Kmac,
+}
 
 // The limits of `calls`, specs/Limits.antt.
 pub const MAX_PERSONALISATION: usize = 84;

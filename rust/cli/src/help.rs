@@ -4,7 +4,7 @@ use crate::command::{Command, COMMANDS};
 use crate::options::Choice;
 use hailfeather::Refusal;
 
-const ABOUT: &str = "hailfeather: chute plans, hall plans, sealing, cSHAKE256, KMAC256 and the cSHAKE generator, proved
+const ABOUT: &str = "hailfeather: chute plans, hall plans, sealing, cSHAKE256, KMAC256, KMACXOF256 and two generators, proved
 
 Usage:
     hailfeather COMMAND [OPTIONS] [FILE]

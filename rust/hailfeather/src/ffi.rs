@@ -42,12 +42,23 @@ pub struct hf_generator {
     pub seeded: u8,
 }
 
+#[derive(Clone, Copy)]
 #[repr(C)]
-pub struct hf_draw {
-    pub generator: hf_generator,
+pub struct hf_kmac_generator {
+    pub key: [u8; 64],
+    pub seeded: u8,
+}
+
+/// What a seeding or a draw of either generator hands back.
+#[repr(C)]
+pub struct Draw<G> {
+    pub generator: G,
     pub runs: usize,
     pub number: u8,
 }
+
+pub type hf_draw = Draw<hf_generator>;
+pub type hf_kmac_draw = Draw<hf_kmac_generator>;
 
 extern "C" {
     #[cfg(test)]
@@ -127,6 +138,22 @@ extern "C" {
         personalisation_length: usize,
     ) -> hf_draw;
     pub fn hf_generator_draw(generator: hf_generator, additional: *const u8, additional_length: usize, out: *mut u8, out_length: usize) -> hf_draw;
+
+    pub fn hf_kmac_generator_fresh() -> hf_kmac_generator;
+    pub fn hf_kmac_generator_seed(
+        generator: hf_kmac_generator,
+        seed: *const u8,
+        seed_length: usize,
+        personalisation: *const u8,
+        personalisation_length: usize,
+    ) -> hf_kmac_draw;
+    pub fn hf_kmac_generator_draw(
+        generator: hf_kmac_generator,
+        additional: *const u8,
+        additional_length: usize,
+        out: *mut u8,
+        out_length: usize,
+    ) -> hf_kmac_draw;
 }
 
 /// Puts `with` in place of a secret by a volatile write, which is made even though the secret is never read again.
@@ -142,4 +169,6 @@ const _: () = {
     assert!(size_of::<hf_step>() == 248 && offset_of!(hf_step, number) == 240);
     assert!(size_of::<hf_generator>() == 65 && offset_of!(hf_generator, seeded) == 64);
     assert!(size_of::<hf_draw>() == 88 && offset_of!(hf_draw, runs) == 72 && offset_of!(hf_draw, number) == 80);
+    assert!(size_of::<hf_kmac_generator>() == 65 && offset_of!(hf_kmac_generator, seeded) == 64);
+    assert!(size_of::<hf_kmac_draw>() == 88 && offset_of!(hf_kmac_draw, runs) == 72 && offset_of!(hf_kmac_draw, number) == 80);
 };

@@ -1,113 +1,68 @@
-//! The cSHAKE generator.
+//! The generators, and what they share.
+
+mod cshake;
+mod kmac;
 
 use std::fmt;
+
+pub use cshake::Generator;
+pub use kmac::KmacGenerator;
 
 use crate::ffi;
 use crate::refusal::{check, Refusal, Runs};
 
-/// What a generator is overwritten with.
-const ZERO: ffi::hf_generator = ffi::hf_generator { key: [0; 64], seeded: 0 };
+type Fresh<S> = unsafe extern "C" fn() -> S;
+type Seeding<S> = unsafe extern "C" fn(S, *const u8, usize, *const u8, usize) -> ffi::Draw<S>;
+type Drawing<S> = unsafe extern "C" fn(S, *const u8, usize, *mut u8, usize) -> ffi::Draw<S>;
 
-/// A generator of bytes that cannot be foretold without its seeds.
-///
-/// **It gathers no randomness: all of it comes from the seeds**, and the same seeds and draws give the same bytes. Seed it with at least 32 bytes of
-/// the operating system's randomness wherever the bytes have to be secret.
-///
-/// There is no `Clone` on purpose: two copies would give one stream twice. It is overwritten with zeros when it is dropped. Copies that a move or a
-/// call leaves on the stack are not.
-///
-/// ```
-/// use hailfeather::Generator;
-/// use std::fs::File;
-/// use std::io::Read;
-///
-/// let mut seed = [0; 64];
-/// File::open("/dev/urandom")?.read_exact(&mut seed)?;
-/// let mut generator = Generator::new();
-/// generator.seed(&seed, b"keys of depot 7")?;
-/// let mut key = [0; 32];
-/// generator.draw(b"", &mut key)?;
-/// # assert_ne!(key, [0; 32]);
-/// # Ok::<(), std::io::Error>(())
-/// ```
-pub struct Generator {
-    state: ffi::hf_generator,
+/// A generator's state in C, and the library's functions for it.
+trait State: Copy {
+    /// What it is overwritten with.
+    const ZERO: Self;
+    /// The type that its users see.
+    const NAME: &'static str;
+    const FRESH: Fresh<Self>;
+    const SEED: Seeding<Self>;
+    const DRAW: Drawing<Self>;
+    fn seeded(&self) -> bool;
 }
 
-impl Generator {
-    /// A generator that was never seeded: it refuses every draw until it is.
-    ///
-    /// ```
-    /// let mut generator = hailfeather::Generator::new();
-    /// assert_eq!(generator.draw(b"", &mut [0; 32]).unwrap_err().to_string(), "refused 1: the generator was never seeded");
-    /// ```
-    pub fn new() -> Generator {
+/// Holds a generator's state, and overwrites it when it is dropped.
+struct Held<S: State>(S);
+
+impl<S: State> Held<S> {
+    fn fresh() -> Held<S> {
         // SAFETY: the function takes nothing and hands back a plain value.
-        Generator {
-            state: unsafe { ffi::hf_generator_fresh() },
-        }
+        Held(unsafe { S::FRESH() })
     }
 
-    /// Makes a new key of the old one, the seed (at most 65,536 bytes) and the personalisation (at most 84).
-    ///
-    /// It may be done again at any time. An empty seed is accepted and counts as a seeding. Refuses with 3, 5.
-    ///
-    /// ```
-    /// let mut generator = hailfeather::Generator::new();
-    /// generator.seed(b"a seed for a test", b"")?;
-    /// assert_eq!(generator.seed(b"", &[0; 85]).unwrap_err().number(), 3);
-    /// # Ok::<(), hailfeather::Refusal>(())
-    /// ```
-    pub fn seed(&mut self, seed: &[u8], personalisation: &[u8]) -> Result<Runs, Refusal> {
+    fn seed(&mut self, seed: &[u8], personalisation: &[u8]) -> Result<Runs, Refusal> {
         // SAFETY: each pointer comes from a slice with its length; a slice's pointer is never null.
-        let answer = unsafe { ffi::hf_generator_seed(self.state, seed.as_ptr(), seed.len(), personalisation.as_ptr(), personalisation.len()) };
+        let answer = unsafe { S::SEED(self.0, seed.as_ptr(), seed.len(), personalisation.as_ptr(), personalisation.len()) };
         self.go_on("seed", answer)
     }
 
-    /// Fills `out`, with an additional input of at most 84 bytes.
-    ///
-    /// The bytes come in pieces of 208, each of which takes 3 runs and makes a new key, so two draws of 10 bytes are not one of 20. A draw of no
-    /// bytes is accepted and leaves the key. Refuses with 1, 3, 6.
-    ///
-    /// ```
-    /// let mut generator = hailfeather::Generator::new();
-    /// generator.seed(b"a seed for a test", b"")?;
-    /// assert_eq!(generator.draw(b"", &mut [0; 208])?.0, 3);
-    /// assert_eq!(generator.draw(b"", &mut [0; 209])?.0, 6);
-    /// # Ok::<(), hailfeather::Refusal>(())
-    /// ```
-    pub fn draw(&mut self, additional: &[u8], out: &mut [u8]) -> Result<Runs, Refusal> {
+    fn draw(&mut self, additional: &[u8], out: &mut [u8]) -> Result<Runs, Refusal> {
         // SAFETY: as in `seed`; `out` overlaps nothing.
-        let answer = unsafe { ffi::hf_generator_draw(self.state, additional.as_ptr(), additional.len(), out.as_mut_ptr(), out.len()) };
+        let answer = unsafe { S::DRAW(self.0, additional.as_ptr(), additional.len(), out.as_mut_ptr(), out.len()) };
         self.go_on("draw", answer)
     }
 
     /// Puts the generator that was handed back in place, which on a refusal is the old one.
-    fn go_on(&mut self, entry: &str, answer: ffi::hf_draw) -> Result<Runs, Refusal> {
-        self.state = answer.generator;
+    fn go_on(&mut self, entry: &str, answer: ffi::Draw<S>) -> Result<Runs, Refusal> {
+        self.0 = answer.generator;
         check(entry, answer.number).map(|()| Runs(answer.runs))
     }
 }
 
-/// As [`Generator::new`].
-impl Default for Generator {
-    fn default() -> Generator {
-        Generator::new()
-    }
-}
-
-impl Drop for Generator {
+impl<S: State> Drop for Held<S> {
     fn drop(&mut self) {
-        ffi::overwrite(&mut self.state, ZERO);
+        ffi::overwrite(&mut self.0, S::ZERO);
     }
 }
 
-/// Shows whether it was seeded, and nothing of its key.
-impl fmt::Debug for Generator {
+impl<S: State> fmt::Debug for Held<S> {
     fn fmt(&self, formatter: &mut fmt::Formatter<'_>) -> fmt::Result {
-        formatter
-            .debug_struct("Generator")
-            .field("seeded", &(self.state.seeded != 0))
-            .finish_non_exhaustive()
+        formatter.debug_struct(S::NAME).field("seeded", &self.0.seeded()).finish_non_exhaustive()
     }
 }

@@ -1,5 +1,5 @@
-//! Hailfeather for Rust: cSHAKE256, KMAC256 and KMACXOF256 in one call and in sessions, sealing and opening, a generator, chute plans and
-//! hall plans.
+//! Hailfeather for Rust: cSHAKE256, KMAC256 and KMACXOF256 in one call and in sessions, sealing and opening, two generators, chute plans
+//! and hall plans.
 //!
 //! The work is done by the static library `libhailfeather.a`, in which every function is proved against its contract: for every input, of every
 //! content and length, the answer, the count and the final contents of all lent memory are fixed. This package is the safe way to it from Rust. It
@@ -16,6 +16,7 @@
 //! | name data by a digest, without a key | [`cshake256`] | with a customisation, a digest made for one purpose serves no other |
 //! | do either of the two above in pieces | [`Session`] | it is a writer and a reader, for [`std::io::copy`] |
 //! | make many secret bytes of a seed | [`Generator`] | each piece of 208 bytes makes a new key, and the old one is gone |
+//! | the same where a policy names KMAC | [`KmacGenerator`] | it is made of KMACXOF256; a piece takes 4 permutation runs, and the other's 3 |
 //! | read, write or ask chute plans | [`plan`] | a plan that is bad anywhere is refused whole |
 //! | the same of plans by hall and line | [`hall`] | chutes stand in halls, which stand in halls, and count through all of them |
 //!
@@ -91,7 +92,7 @@ mod refusal;
 mod seal;
 mod session;
 
-pub use generator::Generator;
+pub use generator::{Generator, KmacGenerator};
 pub use hash::{cshake256, keccak_p, kmac256, kmacxof256};
 pub use refusal::{refusals, Reason, Refusal, Runs};
 pub use seal::{open, seal};

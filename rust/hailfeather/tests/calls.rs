@@ -74,7 +74,7 @@ fn every_wrong_answer_is_found() {
 }
 
 fn of_generator(line: &str) -> bool {
-    ["generator_fresh", "seed", "draw"].contains(&line.split(' ').next().unwrap())
+    ["generator_fresh", "kmac_generator_fresh", "seed", "draw"].contains(&line.split(' ').next().unwrap())
 }
 
 /// The field with another last digit.
@@ -89,6 +89,7 @@ fn a_file_that_is_no_file_of_calls_is_refused() {
         ("", "there are no calls"),
         ("kmac128 - - - 32 = 0 3 00", "there is no entry kmac128"),
         ("take 00 = 0", "no session line stands before"),
+        ("draw - 1 = 1 0 - 00", "no fresh generator stands before"),
         ("plan_step = 0 7 2", "no plan_start stands before"),
         ("plan_length 7 = 0 2 2", "the answer is 0 2"),
         ("cshake256 - - - = 0 1 -", "3 fields stand where 4 belong"),

@@ -3,7 +3,7 @@
 use hailfeather::hall::{self, Summary, CHUTE, HALL};
 use hailfeather::limits::{CHUTES, DESTINATION, LEVELS, MESSAGE, OUTPUT, PLAN, ROWS, SEALING_KEY, SEED, SHORT, STRING, TAG};
 use hailfeather::plan;
-use hailfeather::{cshake256, kmac256, kmacxof256, open, seal, Generator, Refusal, Session};
+use hailfeather::{cshake256, kmac256, kmacxof256, open, seal, Generator, KmacGenerator, Refusal, Session};
 
 /// The numbers that a call answers at the limit and one past it.
 fn sides<T>(limit: usize, call: impl Fn(&[u8]) -> Result<T, Refusal>) -> [u8; 2] {
@@ -13,12 +13,6 @@ fn sides<T>(limit: usize, call: impl Fn(&[u8]) -> Result<T, Refusal>) -> [u8; 2]
 
 fn number<T>(answer: Result<T, Refusal>) -> u8 {
     answer.map_or_else(|refusal| refusal.number(), |_| 0)
-}
-
-fn seeded() -> Generator {
-    let mut generator = Generator::new();
-    generator.seed(b"a seed for a test", b"").unwrap();
-    generator
 }
 
 #[test]
@@ -39,15 +33,28 @@ fn messages_and_outputs() {
     assert_eq!(sides(MESSAGE, |label| seal(&[0; 32], b"", b"", label, &mut [], &mut [0; 16])), [0, 5]);
     assert_eq!(sides(OUTPUT, |out| cshake256(b"", b"", b"", &mut out.to_vec())), [0, 6]);
     assert_eq!(sides(OUTPUT, |out| Session::cshake256(b"", b"").unwrap().give(&mut out.to_vec())), [0, 6]);
-    assert_eq!(sides(OUTPUT, |out| seeded().draw(b"", &mut out.to_vec())), [0, 6]);
 }
 
-#[test]
-fn generators() {
-    assert_eq!(sides(SEED, |seed| Generator::new().seed(seed, b"")), [0, 5]);
-    assert_eq!(sides(SHORT, |personalisation| Generator::new().seed(b"", personalisation)), [0, 3]);
-    assert_eq!(sides(SHORT, |additional| seeded().draw(additional, &mut [0])), [0, 3]);
+/// The limits of a generator's type.
+macro_rules! generator_limits {
+    ($test:ident, $generator:ident) => {
+        #[test]
+        fn $test() {
+            let seeded = || {
+                let mut generator = $generator::new();
+                generator.seed(b"a seed for a test", b"").unwrap();
+                generator
+            };
+            assert_eq!(sides(SEED, |seed| $generator::new().seed(seed, b"")), [0, 5]);
+            assert_eq!(sides(SHORT, |personalisation| $generator::new().seed(b"", personalisation)), [0, 3]);
+            assert_eq!(sides(SHORT, |additional| seeded().draw(additional, &mut [0])), [0, 3]);
+            assert_eq!(sides(OUTPUT, |out| seeded().draw(b"", &mut out.to_vec())), [0, 6]);
+        }
+    };
 }
+
+generator_limits!(generators, Generator);
+generator_limits!(kmac_generators, KmacGenerator);
 
 #[test]
 fn sealing_keys_and_tags() {

@@ -1,8 +1,8 @@
-//! A session and a generator hold nothing but zeros where they were when they are dropped.
+//! A session and a generator of either kind hold nothing but zeros where they were when they are dropped.
 
 use std::mem::MaybeUninit;
 
-use hailfeather::{Generator, Session};
+use hailfeather::{Generator, KmacGenerator, Session};
 
 /// How many of a value's first `length` bytes are not 0 before it is dropped, and after.
 fn not_zero<T>(value: T, length: usize) -> [usize; 2] {
@@ -26,11 +26,22 @@ fn a_session() {
     assert_eq!(after, 0);
 }
 
+fn seeded_generator_is_overwritten<T>(generator: T) {
+    let [before, after] = not_zero(generator, 65);
+    assert!(before > 50, "{before} bytes are not 0");
+    assert_eq!(after, 0);
+}
+
 #[test]
 fn a_generator() {
     let mut generator = Generator::new();
     generator.seed(b"a seed for a test", b"").unwrap();
-    let [before, after] = not_zero(generator, 65);
-    assert!(before > 50, "{before} bytes are not 0");
-    assert_eq!(after, 0);
+    seeded_generator_is_overwritten(generator);
+}
+
+#[test]
+fn a_kmac_generator() {
+    let mut generator = KmacGenerator::new();
+    generator.seed(b"a seed for a test", b"").unwrap();
+    seeded_generator_is_overwritten(generator);
 }

@@ -5,7 +5,6 @@ use denote.Ref.{now}
 use borrow.Author.Needs.{needs}
 use Rattle.drng.specs.declared.Generator.{Generator}
 use Rattle.drng.specs.Drng.{seedAnswer}
-use Rattle.generator.specs.Cshake.{cshakeDrng}
 use Rattle.c_generator_state.specs.Generator.{exportedAnswer}
 use Rattle.c_generator.proofs.seed.Statement.{statement}
 use Rattle.c_generator.proofs.seed.Tie as tie
@@ -16,7 +15,7 @@ returns c =
     c .exported .ensures
     ∙ ap exportedAnswer
     (c .before .seed .ensures
-    ∙ ap (λ (g : Generator). seedAnswer cshakeDrng g (now (a .seed)) (now (a .personalisation))) (c .before .before .imported .ensures))
+    ∙ ap (λ (g : Generator). seedAnswer (a .drng) g (now (a .seed)) (now (a .personalisation))) (c .before .before .imported .ensures))
 
 pub seed-spec : {M : Type 1} → statement M
 seed-spec = tie.close (tie.spec (λ c κs. search needs) (λ c κs. search needs) (λ c κs. search needs) returns)

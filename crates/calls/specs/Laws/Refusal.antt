@@ -9,9 +9,9 @@ use lib.Dec.{ltb, eqb}
 use lib.ListN.{length}
 use Rattle.answers.specs.Done.{ifDone}
 use Rattle.answers.specs.Laws.{firstOf-passed, firstOf-refused, over-passed}
-use Rattle.calls.specs.Limits.{maxMessage}
-use Rattle.calls.specs.Start.{sameBytes, startRefusal}
-use Rattle.calls.specs.Call.{Function, Call, startOf, messageOf, outputBytes, messageRefusal, outputRefusal, refusal, Accepted}
+use Rattle.calls.specs.Limits.{maxMessage, maxOutput}
+use Rattle.calls.specs.Start.{Start, named, keyed, sameBytes, startRefusal}
+use Rattle.calls.specs.Call.{Function, Call, startOf, messageOf, outputBytes, messageRefusal, outputRefusal, refusal, Accepted, extendableCall}
 use Rattle.calls.specs.Count.{runs, reportedRuns}
 
 -- A call's number, by what refuses it first, and its count
@@ -57,6 +57,12 @@ module _ {f : Function} (c : Call f) where
   unfolding refusal
   output-accepted h =
       firstOf-passed (messageRefusal (length (messageOf c))) _ (firstOf-passed (startRefusal (startOf c)) _ h .1) .1
+
+-- an extendable function is done within the limits
+pub extendable-accepted : (s : Start) (X : List ℕ) (n : ℕ) → startRefusal s ≡ 0 → length X ≤ maxMessage → n ≤ maxOutput → Accepted (extendableCall s X n)
+unfolding refusal
+extendable-accepted (named N S) X n ok m o = rw (ok, le-ltb maxMessage (length X) m, le-ltb maxOutput n o)
+extendable-accepted (keyed K S) X n ok m o = rw (ok, le-ltb maxMessage (length X) m, le-ltb maxOutput n o)
 
 -- The comparison of names
 

@@ -9,18 +9,18 @@ use lib.ListN.{length, take, drop}
 use lib.Seq.{length-take-le}
 use Rattle.pieces.specs.Pieces.{pieceBytes, drawn}
 use Rattle.pieces.specs.Laws.{before, cut-fits, cut-some, drawn-turn, drawn-end}
-use Rattle.generator.specs.Cshake.{generate}
+use Rattle.drng.specs.Calls.{generate}
 use Rattle.generator.proofs.Calls.{piece-key, piece-stream, piece-sized}
 use Rattle.generator.proofs.draw_pieces.Statement.{statement}
 use Rattle.generator.proofs.draw_pieces.Tie as tie
 
 abbrev Inv-loop : tie.InvT-loop
-Inv-loop additional out₀ n key₀ i₀ out key i =
+Inv-loop drng additional out₀ n key₀ i₀ out key i =
     (i ≤ n) × (n ≡ length out₀) × (length out ≡ length out₀)
-    × (before (take i out) (drawn (generate additional) (n - i) key) ≡ drawn (generate additional) n key₀)
+    × (before (take i out) (drawn (generate drng additional) (n - i) key) ≡ drawn (generate drng additional) n key₀)
 
 abbrev μ-loop : tie.MeasureT-loop
-μ-loop additional out₀ n key₀ i₀ out key i = n - i
+μ-loop drng additional out₀ n key₀ i₀ out key i = n - i
 
 -- the places in a turn, from the piece back to the start
 abbrev cutting : tie.After-piece Inv-loop μ-loop → tie.After-cut Inv-loop μ-loop
@@ -37,7 +37,7 @@ loop-holds c =
     let a = c .before .before .args in
     let n = length (a .out .now) in
     let z : n - 0 ≡ n = omega arith in
-    (omega arith, refl, refl, ap (λ (k : ℕ). drawn (generate (a .additional .now)) k (a .old)) z)
+    (omega arith, refl, refl, ap (λ (k : ℕ). drawn (generate (a .drng) (a .additional .now)) k (a .old)) z)
 
 sub-cut : tie.Need-sub-cut Inv-loop μ-loop
 sub-cut c = omega arith
@@ -72,25 +72,27 @@ loop-again c =
     let k = at .loop in
     let next = cutting made .cut in
     let piece = made .piece in
+    let drng = a .drng in
     let additional = a .additional .now in
-    let part = piece .last .1 .1 .0 in
+    let part = piece .last .1 .1 .1 .0 in
     let n = length (a .out .now) in
     let fits = cut-fits (n - k .i) in
     let end : k .i + next .result ≤ n = omega (arith, next .ensures, fits .0) in
     let size : length (take (k .i + next .result - k .i) (drop (k .i) (k .out))) ≡ next .result
     = mid-len (k .i) (k .i + next .result) (k .out) (omega arith) ∙ omega arith in
     let room : length (take (k .i + next .result - k .i) (drop (k .i) (k .out))) ≤ pieceBytes = omega (arith, size, next .ensures, fits .1) in
-    let given : part ≡ take (next .result) (generate additional (k .key) .stream)
-    = piece-stream _ _ _ _ _ (piece .ensures) (start at .pre) room ∙ ap (λ (m : ℕ). take m (generate additional (k .key) .stream)) size in
+    let given : part ≡ take (next .result) (generate drng additional (k .key) .stream)
+    = piece-stream _ _ _ _ (start at .pre) _ _ (piece .ensures) room ∙ ap (λ (m : ℕ). take m (generate drng additional (k .key) .stream)) size in
     let long : length part ≡ length (take (k .i + next .result - k .i) (drop (k .i) (k .out)))
     = ap length given
-    ∙ length-take-le (next .result) (generate additional (k .key) .stream) (omega (arith, next .ensures, fits .1, piece-sized additional (k .key)))
-    ∙ sym size in (
+    ∙ length-take-le (next .result) (generate drng additional (k .key) .stream) (omega (arith, next .ensures, fits .1, piece-sized drng additional (k .key)))
+    ∙ sym size in
+    let rest = postOf (k .i) (k .i + next .result - k .i) (k .out) in (
       end,
       refl,
       same-len-mid (k .i) (k .i + next .result - k .i) (k .out) part long ∙ k .inv .2,
-      drawn-turn (generate additional) (piece-sized additional) (k .out) part (postOf (k .i) (k .i + next .result - k .i) (k .out)) (k .key) (piece .result)
-          (k .i) n (next .result) (omega arith) (omega arith) (next .ensures) given (piece-key _ _ _ _ _ (piece .ensures) (start at .pre) room)
+      drawn-turn (generate drng additional) (piece-sized drng additional) (k .out) part rest (k .key) (piece .result) (k .i) n
+          (next .result) (omega arith) (omega arith) (next .ensures) given (piece-key _ _ _ _ (start at .pre) _ _ (piece .ensures) room)
           ∙ k .inv .3,
     )
 
@@ -104,7 +106,7 @@ returns c =
     let n = length (a .out .now) in
     let e : k .i ≡ n = omega arith in
     let z : n - n ≡ 0 = omega arith in
-    drawn-end (generate (a .additional .now)) (piece-sized (a .additional .now)) (k .out) (k .key) (a .old) n (k .inv .2)
+    drawn-end (generate (a .drng) (a .additional .now)) (piece-sized (a .drng) (a .additional .now)) (k .out) (k .key) (a .old) n (k .inv .2)
     (rw (e, z) at (k .inv .3))
 
 pub draw-pieces-spec : {M : Type 1} → statement M

@@ -4,7 +4,6 @@ use lib.ListN.{length}
 use Rattle.seeding.specs.Seeding.{seedLengthsRefusal}
 use Rattle.seeding.specs.Laws.{seed-limits}
 use Rattle.drng.proofs.Answers.{seed-refused, seed-accepted}
-use Rattle.generator.specs.Cshake.{cshakeDrng}
 use Rattle.generator.proofs.Calls.{key-made, key-runs}
 use Rattle.generator.proofs.seed.Statement.{statement}
 use Rattle.generator.proofs.seed.Tie as tie
@@ -18,7 +17,7 @@ returns c =
     let a = entry (tested .before) .args in
     let number = tested .before .seed-refusal in
     c .refuse .ensures
-    ∙ seed-refused cshakeDrng (a .generator) (a .seed .now) (a .personalisation .now) (number .result) (number .ensures) (tested .if1 .taken)
+    ∙ seed-refused (a .drng) (a .generator) (a .seed .now) (a .personalisation .now) (number .result) (number .ensures) (tested .if1 .taken)
 
 -- no number is given past the tests
 accepted : (c : tie.Else1) → seedLengthsRefusal (length (entry (c .before) .args .seed .now)) (length (entry (c .before) .args .personalisation .now)) ≡ 0
@@ -32,8 +31,8 @@ returns-2 c =
     let new = made .new-key in
     let short = seed-limits _ _ (accepted past) .0 in
     c .accept .ensures
-    ∙ seed-accepted cshakeDrng (a .generator) (a .seed .now) (a .personalisation .now) (new .result .runs) (new .result .key) (accepted past)
-    (key-runs _ _ _ _ (new .ensures) short) (key-made _ _ _ _ (new .ensures) short)
+    ∙ seed-accepted (a .drng) (a .generator) (a .seed .now) (a .personalisation .now) (new .result .runs) (new .result .key) (accepted past)
+    (key-runs _ _ _ _ _ (new .ensures) short) (key-made _ _ _ _ _ (new .ensures) short)
 
 pub seed-spec : {M : Type 1} → statement M
 seed-spec = tie.close (tie.spec (λ c κs. tt) (λ c κs. tt) returns (λ c κs. tt) (λ c κs. tt) returns-2)

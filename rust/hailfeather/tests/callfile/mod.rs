@@ -1,6 +1,7 @@
 //! The file of calls and its reader. compare/README.md of the repository has the format.
 
 mod bytes;
+mod generators;
 mod halls;
 mod lent;
 mod one_call;

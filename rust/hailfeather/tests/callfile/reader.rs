@@ -2,13 +2,14 @@
 
 use std::collections::{BTreeMap, BTreeSet};
 
-use hailfeather::{cshake256, kmac256, kmacxof256, Session};
+use hailfeather::{cshake256, kmac256, kmacxof256, Generator, KmacGenerator, Session};
 use hailfeather::{hall, plan};
 
 use super::bytes::{bytes, list, number};
+use super::generators::Generators;
 use super::halls;
 use super::one_call::{hash, opened, permuted, row, sealed, value, written, Compared};
-use super::states::{Generators, Sessions, Walks};
+use super::states::{Sessions, Walks};
 
 pub const REFUSALS: &str = include_str!("../../refusals.txt");
 
@@ -35,7 +36,7 @@ impl Reader {
             let beginning: String = line.chars().take(300).collect();
             self.line(line).map_err(|wrong| format!("line {}: {wrong}\n{beginning}", place + 1))?;
         }
-        self.generators.begin()?;
+        self.generators.end()?;
         if self.compared.is_empty() {
             return Err("there are no calls".into());
         }
@@ -70,7 +71,8 @@ impl Reader {
             "give" => self.sessions.give(exactly(given)?, exactly(answer)?),
             "seal" => sealed(exactly(given)?, exactly(answer)?),
             "open" => opened(exactly(given)?, exactly(answer)?),
-            "generator_fresh" => self.generators.begin(),
+            "generator_fresh" => self.generators.begin(Generator::new()),
+            "kmac_generator_fresh" => self.generators.begin(KmacGenerator::new()),
             "seed" => self.generators.seed(exactly(given)?, exactly(answer)?),
             "draw" => self.generators.draw(exactly(given)?, exactly(answer)?),
             "plan_read" => exactly(given).and_then(|[plan]| value(plan::rows(&bytes(plan)), "0", answer)),

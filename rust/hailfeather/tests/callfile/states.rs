@@ -1,13 +1,13 @@
-//! The session, the generator and the walk that later lines go on with.
+//! The session and the walk that later lines go on with.
 
 use std::io::{self, Read, Write};
 
 use hailfeather::plan::Walk;
-use hailfeather::{cshake256, Generator, Refusal, Session};
+use hailfeather::{Refusal, Session};
 
 use super::bytes::{bytes, number};
 use super::lent::Lent;
-use super::one_call::{number_of, runs_of, same, Compared};
+use super::one_call::{number_of, same, Compared};
 
 type Start = fn(&[u8], &[u8]) -> Result<Session, Refusal>;
 
@@ -74,46 +74,6 @@ fn inside(error: io::Error) -> Refusal {
         .get_ref()
         .and_then(|inner| inner.downcast_ref())
         .expect("a Refusal inside the io::Error")
-}
-
-#[derive(Default)]
-pub struct Generators {
-    last: Generator,
-    /// The key that the last line shows, once the generator is seeded.
-    key: Option<Vec<u8>>,
-}
-
-impl Generators {
-    pub fn seed(&mut self, [seed, personalisation]: [&str; 2], [refusal, runs, key]: [&str; 3]) -> Compared {
-        let found = self.last.seed(&bytes(seed), &bytes(personalisation));
-        self.key = (found.is_ok() || self.key.is_some()).then(|| bytes(key));
-        same(&[refusal, runs], runs_of(found))?;
-        Ok(found.err())
-    }
-
-    pub fn draw(&mut self, [additional, length]: [&str; 2], [refusal, runs, output, key]: [&str; 4]) -> Compared {
-        let mut out = Lent::new(number(length));
-        let found = self.last.draw(&bytes(additional), out.middle());
-        self.key = self.key.is_some().then(|| bytes(key));
-        same(&[refusal, runs], runs_of(found))?;
-        out.check(found.is_err(), output)?;
-        Ok(found.err())
-    }
-
-    /// Puts a fresh generator in place of the old one. A key cannot be seen, so the old one's last is compared by a draw more, which by its
-    /// definition is the bytes 64 to 271 of a cSHAKE256.
-    pub fn begin(&mut self) -> Compared {
-        let (mut stream, mut defined) = ([0; 208], [0; 272]);
-        let found = std::mem::take(&mut self.last).draw(b"", &mut stream);
-        let Some(key) = self.key.take() else {
-            return same(&["1"], number_of(&found)).map(|()| None);
-        };
-        cshake256(b"cSHAKE-DRNG generate", &key, &[0], &mut defined).map_err(|refusal| refusal.to_string())?;
-        match found.is_ok() && stream == defined[64..] {
-            true => Ok(None),
-            false => Err("the generator of the lines before has another key".into()),
-        }
-    }
 }
 
 #[derive(Default)]

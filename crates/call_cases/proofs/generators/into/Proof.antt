@@ -14,6 +14,7 @@ into-spec =
     (tie.spec
     (λ c κs. search needs)
     (λ c. search needs)
+    (λ c κs. search needs)
     (λ c. search needs)
     slice-aggregate-draw
     (λ c κs. search needs)

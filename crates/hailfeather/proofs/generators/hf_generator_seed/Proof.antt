@@ -1,4 +1,4 @@
--- The entry's own answer, handed on: its contract is this one, word for word.
+-- The entry's own answer, handed on: its contract, for the generator that is named here, is this one.
 use borrow.Author.Needs.{needs}
 use Rattle.hailfeather.proofs.generators.hf_generator_seed.Statement.{statement}
 use Rattle.hailfeather.proofs.generators.hf_generator_seed.Tie as tie

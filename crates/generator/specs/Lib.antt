@@ -1,3 +1,0 @@
--- The generator; then facts by computation.
-pub mod Cshake
-pub mod Facts
