@@ -40,7 +40,7 @@ runs-fit d b r x p hb hr hx hp =
 
 -- ---- the output
 
--- a step's start s, and the message x with the generator's ending put in after it: the call for k bytes
+-- a call's start s, and the message x with the generator's ending put in after it: the call for k bytes
 module _ (s : Started) (x b : List ℕ) (r k : ℕ) (name customisation key : List ℕ) where
   abbrev Absorbed : Drng → Type 0
   Absorbed d = MessageAbsorbed (s .suffix) (s .lanes) (x ++ endingOf d) b r
