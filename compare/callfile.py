@@ -110,7 +110,8 @@ OUTPUT = Kind(str, shown)  # read as it stands, to be compared by `agrees`
 LIST = Kind(list_of, list_field)
 LISTS = {"LANES": Kind(lanes_of, lanes_field), "DESTINATIONS": LIST, "KINDS": LIST, "VALUES": LIST}
 LENGTHS = {"LENGTH", "TAG-LENGTH", "KINDS-LENGTH", "VALUES-LENGTH"}
-NUMBERS = {*LENGTHS, "NUMBER", "RUNS", "ROWS", "CHUTE", "DESTINATION", "SOURCE", "START", "PLACE", "ENTRIES", "OUTER", "CHUTES"}
+COUNTS = {"RUNS", "ROWS", "ENTRIES", "OUTER", "CHUTES"}
+NUMBERS = {*LENGTHS, *COUNTS, "NUMBER", "CHUTE", "DESTINATION", "SOURCE", "START", "MALFORMED", "AT", "PLACE"}
 
 
 def kind(name: str, others: Kind) -> Kind:

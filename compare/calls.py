@@ -3,7 +3,8 @@
     python3 compare/calls.py SEED COUNT [small]
 
 COUNT is the least number of lines; `small` leaves out those around 16 MiB. Fails unless every refusal of include/refusals.txt that is then within
-reach, and an acceptance of every entry, are among the answers, those of `seed` and `draw` for either generator.
+reach, and an acceptance of every entry, are among the answers, those of `seed` and `draw` for either generator, and every row of the table in
+docs/RULES.md, "Places", for every entry that can meet it.
 """
 
 import os
@@ -15,6 +16,7 @@ import fast_sponge  # before every other module of the reference
 import hall_calls
 import hash_calls
 import limit_calls
+import place_calls
 import plan_calls
 import seal_calls
 
@@ -46,6 +48,7 @@ def lines(rng, count, small):
     """The lines, those at the limits first."""
     yield from plan_calls.limits(rng)
     yield from hall_calls.limits(rng)
+    yield from place_calls.limits(rng)
     if not small:
         for calls in LIMITS:
             yield from calls(rng)
@@ -83,16 +86,21 @@ def owed():
 
 
 def main(seed, count, small):
-    seen = Counter()
+    seen, breaches = Counter(), Counter()
     for line, answer in answers(lines(random.Random(seed), count, small)):
         print(line)
         seen[answer] += 1
+        breaches[place_calls.met(line)] += 1
     missing = sorted(owed() - set(seen))
     extra = sorted(pair for pair in set(seen) - owed() if pair[1] != 0)
     if extra or (missing and not small):
         sys.exit(f"calls.py: answers not among the calls: {missing}; answers without words: {extra}")
+    if place_calls.owed() - set(breaches):
+        sys.exit(f"calls.py: breaches not among the calls: {sorted(place_calls.owed() - set(breaches))}")
+    rarest = min(breaches[met] for met in place_calls.owed())
     accepted = sum(times for (_, number), times in seen.items() if number == 0)
     print(f"{seen.total()} calls of {len({entry for entry, _ in seen})} entries, {accepted} of them accepted, seed {seed}", file=sys.stderr)
+    print(f"{len(place_calls.owed())} breaches of plans, each by entry and rule, at least {rarest} times", file=sys.stderr)
 
 
 if __name__ == "__main__":

@@ -35,32 +35,45 @@ def plan_of(rows, number):
 
 
 def damaged(rng, good):
-    """A plan with a bit flipped, a byte cut, added or put in, or a number of too many groups."""
+    """A plan with a bit flipped, bytes cut, added or put in, or a number of too many groups."""
+    if not good:
+        return rng.randbytes(1)
     at = rng.randrange(len(good))
     return rng.choice(
         [
             good[:at] + bytes([good[at] ^ 1 << rng.randrange(8)]) + good[at + 1 :],
             good[:-1],
+            good[:at],
             good[:at] + good[at + 1 :],
             good + rng.randbytes(rng.randint(1, 3)),
             good[:at] + rng.randbytes(1) + good[at:],
-            good[:-1] + b"\x80\x80\x80\x00",
-            good[:1] + b"\xff\xff\xff" + good[1:],
+            good[:-1] + rng.choice([b"\x80\x80\x80\x00", b"\x80\x80\x80", b"\x80\x80"]),
+            good[:at] + b"\xff\xff\xff" + good[at:],
         ]
     )
 
 
+def too_many_rows(rng):
+    """A number of rows above the limit, and rows, seldom as many as it says, which may be bad too."""
+    number = rng.choice([in_three_groups, plan.written_number])(rng.choice([ROWS + 1, ROWS + 2, 2 * ROWS, LARGEST]))
+    return number + rng.choice([b"", b"\x07", b"\x80", b"\x80\x80\x80\x00", rng.randbytes(5)])
+
+
 def some_plan(rng):
-    """A plan to be read."""
+    """A plan to be read. Of those that are damaged some are so twice, so that which breach comes first matters."""
     choice = rng.random()
     if choice < 0.01:
         return pattern(rng.choice([SEED - 1, SEED, SEED + 1]), 0)
-    if choice < 0.02:
+    if choice < 0.015:
         return plan.written_number(ROWS + 1) + bytes(rng.choice([ROWS, ROWS + 1]))
     if choice < 0.05:
+        return too_many_rows(rng)
+    if choice < 0.08:
         return rng.randbytes(rng.randint(0, 6))
-    good = plan_of(destinations(rng), in_three_groups if choice < 0.15 else plan.written_number)
-    return damaged(rng, good) if rng.random() < 0.35 else good
+    good = plan_of(destinations(rng), in_three_groups if choice < 0.18 else plan.written_number)
+    for _ in range(rng.choices([0, 1, 2], [62, 26, 12])[0]):
+        good = damaged(rng, good)
+    return good
 
 
 def some_chute(rng, asked):
@@ -78,17 +91,17 @@ def look_of(lent, chute):
 
 
 def row_of(site, house, chute):
-    number, source, start, length = plan.row(site, house, chute)
-    yield written("plan_row", [site, house, chute], [number, SOURCES.index(source), start, length])
+    number, source, start, length, malformed, place = plan.row(site, house, chute)
+    yield written("plan_row", [site, house, chute], [number, SOURCES.index(source), start, length, SOURCES.index(malformed), place])
 
 
 def walk_of(lent):
     """A walk over some rows, and past the last where there are few; of a refused plan too."""
     state = plan.walker(lent)
-    yield written("plan_start", [lent], [state.number, state.place])
+    yield written("plan_start", [lent], [state.number, state.at, state.place])
     for _ in range(min(12, plan.read(lent)[1]) + 2):
-        number, found, state = plan.next_row(state)
-        yield written("plan_step", [], [number, found, state.place])
+        number, found, state, place = plan.next_row(state)
+        yield written("plan_step", [], [number, found, state.at, place])
 
 
 def read(rng):
@@ -128,7 +141,7 @@ def write(rng):
     if rows and rng.random() < 0.1:
         rows[rng.randrange(len(rows))] = rng.choice([LARGEST + 1, 2**31, 2**32 - 1])
     length = len(plan_of(rows, plan.written_number))
-    number, _ = plan.write(rows, length)
-    yield written("plan_length", [rows], [number, 0 if number else length])
+    number, _, place = plan.write(rows, length)
+    yield written("plan_length", [rows], [number, 0 if number else length, place])
     lent_length = length if rng.random() < 0.8 else max(0, length + rng.choice([-1, 1, -length]))
     yield written("plan_write", [rows, lent_length], plan.write(rows, lent_length))

@@ -86,13 +86,15 @@ class Reader(PlanReader):
         return 0, output.runs, output, self.key()
 
     def answer(self, call: Call) -> Tuple:
-        """The module's answer; on a refusal 0, no bytes and no list for all but the number and the generator's key."""
+        """The module's answer; on a refusal 0, no bytes and no list for all but the number, a generator's key, and where a plan is malformed."""
         try:
             return getattr(self, call.entry)(call.given)
         except Refusal as refusal:
             _, form = FORMS[call.entry]
-            nothing = {NUMBER: 0, LIST: ()}
-            others = [self.key() if name == "key" else nothing.get(kind, b"") for name, kind in zip(form.made._fields, form.kinds)]
+            nothing, told = {NUMBER: 0, LIST: ()}, self.refused(refusal)
+            if "key" in form.made._fields:
+                told["key"] = self.key()
+            others = [told.get(name, nothing.get(kind, b"")) for name, kind in zip(form.made._fields, form.kinds)]
             return (refusal.number, *others[1:])
 
 

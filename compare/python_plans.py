@@ -2,13 +2,14 @@
 
 import sys
 from pathlib import Path
-from typing import Any, Iterator, Optional, Sequence, Tuple
+from typing import Any, Dict, Iterator, Optional, Sequence, Tuple
 
 sys.path.insert(0, str(Path(__file__).resolve().parent.parent / "python"))
 
 from hailfeather import Refusal, hall, plan  # noqa: E402  (the path above leads to it)
 
 SOURCES = {"site": 1, "house": 2}
+NOWHERE = 0  # the place in an answer for which no plan is malformed, and the plan of two that is malformed if neither is
 UNSEEN = object()  # a field of the answer that the module keeps to itself
 LONGEST = 65_536  # bytes of a hall plan: the module lends no longer buffer
 
@@ -35,41 +36,46 @@ class PlanReader:
 
     walk: Optional[Iterator[int]] = None
 
+    @staticmethod
+    def refused(refusal: Refusal) -> Dict[str, Any]:
+        """The fields of a refused plan's answer that are not 0: its place, and which of two plans it is."""
+        return {"place": refusal.place or NOWHERE, "malformed": SOURCES.get(refusal.malformed, NOWHERE)}
+
     def plan_read(self, given: Any) -> Tuple:
-        return 0, plan.rows(given.plan)
+        return 0, plan.rows(given.plan), NOWHERE
 
     def plan_destination(self, given: Any) -> Tuple:
-        return 0, plan.destination(given.plan, given.chute)
+        return 0, plan.destination(given.plan, given.chute), NOWHERE
 
     def plan_row(self, given: Any) -> Tuple:
         row = plan.row(given.site, given.house, given.chute)
         if row.bytes != getattr(given, row.source)[row.start : row.start + len(row.bytes)]:
             return ()
-        return 0, SOURCES[row.source], row.start, len(row.bytes)
+        return 0, SOURCES[row.source], row.start, len(row.bytes), NOWHERE, NOWHERE
 
     def plan_length(self, given: Any) -> Tuple:
-        return 0, len(plan.write(given.destinations))
+        return 0, len(plan.write(given.destinations)), NOWHERE
 
     def plan_write(self, given: Any) -> Tuple:
         written = plan.write(given.destinations)
         same_length(written, given.length)
-        return 0, written
+        return 0, written, NOWHERE
 
     def plan_start(self, given: Any) -> Tuple:
         self.walk = None
         self.walk = plan.walk(given.plan)
-        return 0, UNSEEN
+        return 0, UNSEEN, NOWHERE
 
     def plan_step(self, given: Any) -> Tuple:
         destination = next(started(self.walk), None)
-        return (10, 0, UNSEEN) if destination is None else (0, destination, UNSEEN)
+        return (10, 0, UNSEEN, NOWHERE) if destination is None else (0, destination, UNSEEN, NOWHERE)
 
     def hall_read(self, given: Any) -> Tuple:
         found = hall.summary(given.plan)
-        return 0, found.entries, found.outer, found.chutes
+        return 0, found.entries, found.outer, found.chutes, NOWHERE
 
     def hall_destination(self, given: Any) -> Tuple:
-        return 0, hall.destination(given.plan, given.chute)
+        return 0, hall.destination(given.plan, given.chute), NOWHERE
 
     def hall_read_into(self, given: Any) -> Tuple:
         """The plan as nested lists has to be that of the lists too."""
@@ -78,10 +84,11 @@ class PlanReader:
         same_length(found.values, given.values_length)
         if hall.write_nested(hall.nested(given.plan)) != hall.write(*found):
             return ()
-        return 0, len(found.kinds), found.outer, list(found.kinds).count(hall.CHUTE), tuple(found.kinds), tuple(found.values)
+        chutes = found.kinds.count(hall.CHUTE)
+        return 0, len(found.kinds), found.outer, chutes, tuple(found.kinds), tuple(found.values), NOWHERE
 
     def hall_length(self, given: Any) -> Tuple:
-        return 0, len(hall.write(given.outer, given.kinds, given.values))
+        return 0, len(hall.write(given.outer, given.kinds, given.values)), NOWHERE
 
     def hall_write(self, given: Any) -> Tuple:
         if given.length > LONGEST:
@@ -93,4 +100,4 @@ class PlanReader:
                 raise LeftOut from None
             raise
         same_length(written, given.length)
-        return 0, written
+        return 0, written, NOWHERE

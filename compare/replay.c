@@ -21,12 +21,12 @@ static const struct {
     {"seal", 11, replay_seal},             {"open", 10, replay_seal},
     {"generator_fresh", 1, replay_generator}, {"kmac_generator_fresh", 1, replay_generator},
     {"seed", 6, replay_generator},         {"draw", 7, replay_generator},
-    {"plan_read", 4, replay_plan},         {"plan_destination", 5, replay_plan},
-    {"plan_row", 8, replay_plan},          {"plan_length", 4, replay_plan},
-    {"plan_write", 5, replay_plan},        {"plan_start", 4, replay_plan},
-    {"plan_step", 4, replay_plan},         {"hall_read", 6, replay_hall},
-    {"hall_destination", 5, replay_hall},  {"hall_read_into", 10, replay_hall},
-    {"hall_length", 6, replay_hall},       {"hall_write", 7, replay_hall},
+    {"plan_read", 5, replay_plan},         {"plan_destination", 6, replay_plan},
+    {"plan_row", 10, replay_plan},         {"plan_length", 5, replay_plan},
+    {"plan_write", 6, replay_plan},        {"plan_start", 5, replay_plan},
+    {"plan_step", 5, replay_plan},         {"hall_read", 7, replay_hall},
+    {"hall_destination", 6, replay_hall},  {"hall_read_into", 11, replay_hall},
+    {"hall_length", 7, replay_hall},       {"hall_write", 8, replay_hall},
 };
 enum { ENTRIES = sizeof entries / sizeof entries[0] };
 static long counts[ENTRIES];

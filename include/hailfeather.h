@@ -28,8 +28,9 @@
  *       to be read into are not exactly as long as there are entries
  *   10  the plan has no such chute
  * On a refusal every lent buffer and list is as it was before, a session or a generator is handed back as it was passed in, and a count, a destination, a
- * length and a number of rows, entries or chutes are 0. So a return value may be put in place of the old one whatever its number is. Two exceptions: a session
- * that could not start is handed back giving, with nothing to give; and a walk that is asked past the last row keeps its place.
+ * length and a number of rows, entries or chutes are 0. So a return value may be put in place of the old one whatever its number is. Three exceptions: the
+ * answer for a malformed plan tells where it is malformed; a session that could not start is handed back giving, with nothing to give; and a walk that is asked
+ * past the last row stays where it stands.
  *
  * Time. Of this archive, on an x86-64 processor, tests/secrets found no branch and no address that depends on a key, a text, a seed or a state, but the one
  * branch of hf_open on whether the tag matches, which it answers. Nothing of that is proved, and another compiler or processor may differ.
@@ -44,8 +45,8 @@
 extern "C" {
 #endif
 
-/* The version of this header, 0.1.0; hf_version tells that of the archive, and the two are to be equal. */
-#define HF_VERSION 100u
+/* The version of this header, 0.2.0; hf_version tells that of the archive, and the two are to be equal. */
+#define HF_VERSION 200u
 uint32_t hf_version(void);
 
 /* Nothing to lend: a pointer that is not null, for a length of 0. */
@@ -213,39 +214,60 @@ hf_kmac_draw hf_kmac_generator_draw(hf_kmac_generator generator, const uint8_t *
  * A plan is the number of its rows (at most 4,096), then the destination of each, then nothing more. A number stands in one to three groups of seven bits,
  * lowest group first, with the top bit of a byte set when another follows: 0 to 2,097,151. Chutes count from 1; destination 0 sends the parcel round again.
  * The plan 03 07 AC 02 00 has three rows, with destinations 7, 300 and 0. Every function reads its plan whole, so a plan that is bad anywhere is refused
- * whichever chute is asked for; the one exception is hf_plan_step, which relies on hf_plan_start. */
+ * whichever chute is asked for; the one exception is hf_plan_step, which relies on hf_plan_start.
+ *
+ * Places. Every answer on plans, flat or of halls, has a place: with the number 9 for a malformed plan the byte, from 0, of the first breach in reading order,
+ * each number being judged once it is read; else 0. The place is
+ *    that of the first missing byte, which is the plan's length, where a number ends before its last group;
+ *    that of a number's third byte where it goes on after that one;
+ *    0 where there are more than 4,096 rows;
+ *    that of the first byte after the last row, or after the last entry;
+ *    in a hall plan that of the first byte of a kind which is neither 0 nor 1, or of a hall beyond the eighth level, or of a chute beyond the 4,096th.
+ * With 9 for rows or halls to be measured or written, or for lists of the wrong length for a good hall plan, it is 0. */
 typedef struct {
+    size_t place;
     uint32_t rows; /* 0 on a refusal */
     uint8_t number;
 } hf_rows;
 
 typedef struct {
+    size_t place;
     uint32_t destination; /* 0 on a refusal: look at number, since 0 is a destination too */
     uint8_t number;
 } hf_destination;
 
-/* Which plan a row is of: neither on a refusal. */
+/* One of two plans, or neither. */
 enum hf_source { HF_NEITHER = 0, HF_SITE = 1, HF_HOUSE = 2 };
 
 typedef struct {
-    size_t start;   /* the row's bytes are plan[start] to plan[start + length - 1] of the plan that source names */
-    size_t length;  /* 1 to 3; 0 on a refusal, and then start is 0 too */
-    uint8_t source; /* one of hf_source */
+    size_t start;      /* the row's bytes are plan[start] to plan[start + length - 1] of the plan that source names */
+    size_t length;     /* 1 to 3; 0 on a refusal, and then start is 0 too */
+    size_t place;      /* in the plan that malformed names */
+    uint8_t source;    /* one of hf_source: which plan the row is of; neither on a refusal */
+    uint8_t malformed; /* one of hf_source: which plan the number 9 is for, the site plan if both are malformed; neither with every other number */
     uint8_t number;
 } hf_row;
 
 typedef struct {
     size_t length; /* in bytes; 0 on a refusal */
+    size_t place;  /* 0, since no plan is read */
     uint8_t number;
 } hf_length;
 
 typedef struct {
-    size_t at;      /* the place of the first row in the plan; 0 on a refusal */
+    size_t place; /* 0, since no plan is read */
+    uint8_t number;
+} hf_written;
+
+typedef struct {
+    size_t at;      /* where the first row stands in the plan; 0 on a refusal */
+    size_t place;
     uint8_t number; /* 0, or the plan's refusal */
 } hf_cursor;
 
 typedef struct {
-    size_t next;          /* the place of the next row; on a refusal the place that was asked at */
+    size_t next;          /* where the next row stands; on a refusal where the walk stood */
+    size_t place;         /* that of the walk's plan with its number 9; else 0 */
     uint32_t destination; /* 0 on a refusal */
     uint8_t number;
 } hf_walk;
@@ -258,15 +280,15 @@ hf_rows hf_plan_read(const uint8_t *plan, size_t plan_length) HF_NONNULL;
 hf_destination hf_plan_destination(const uint8_t *plan, size_t plan_length, uint64_t chute) HF_NONNULL;
 
 /* Where the bytes of a chute's row are: in the site plan if it has that chute, else in the house plan. Refuses with 5, 9, 10: the first two where either
-   plan is bad, the last where neither has the chute. */
+   plan is bad, the last where neither has the chute. The site plan is read first; where one plan is malformed and the other too long, the number is 5. */
 hf_row hf_plan_row(const uint8_t *site, size_t site_length, const uint8_t *house, size_t house_length, uint64_t chute) HF_NONNULL;
 
 /* How many bytes the plan with these destinations takes. Refuses with 9 where there are more than 4,096 rows or one is greater than 2,097,151. */
 hf_length hf_plan_length(const uint32_t *rows, size_t rows_length) HF_NONNULL;
 
 /* Writes the plan with these destinations, each number in the fewest groups, into out, which must have exactly the length that hf_plan_length answers.
-   Answers the number alone. Refuses with 9. */
-uint8_t hf_plan_write(const uint32_t *rows, size_t rows_length, uint8_t *out, size_t out_length) HF_NONNULL;
+   Refuses with 9. */
+hf_written hf_plan_write(const uint32_t *rows, size_t rows_length, uint8_t *out, size_t out_length) HF_NONNULL;
 
 /* A walk over the rows one after another. hf_plan_start reads the plan whole; its answer is kept beside the plan, which must not change meanwhile:
        hf_cursor walk = hf_plan_start(plan, plan_length);
@@ -277,7 +299,7 @@ uint8_t hf_plan_write(const uint32_t *rows, size_t rows_length, uint8_t *out, si
        }
    Refuses with 5, 9. */
 hf_cursor hf_plan_start(const uint8_t *plan, size_t plan_length) HF_NONNULL;
-/* The next row. Refuses with 5, 9, 10: at every ask with the number that hf_plan_start gave, or past the last row with 10. */
+/* The next row. Refuses with 5, 9, 10: at every ask with the number and the place that hf_plan_start gave, or past the last row with 10. */
 hf_walk hf_plan_step(const uint8_t *plan, size_t plan_length, hf_cursor walk) HF_NONNULL;
 
 /* ---- Hall plans ----
@@ -292,6 +314,7 @@ hf_walk hf_plan_step(const uint8_t *plan, size_t plan_length, hf_cursor walk) HF
  * values are 2, 7, 300, 0. Every function reads its plan, or its lists, whole, so what is bad anywhere is refused. */
 typedef struct {
     size_t entries;  /* of all halls: so long are the lists, at most 32,767; 0 on a refusal */
+    size_t place;    /* as in chute plans */
     uint32_t outer;  /* the outermost number of entries; 0 on a refusal */
     uint32_t chutes; /* of all halls; 0 on a refusal */
     uint8_t number;
@@ -307,7 +330,7 @@ hf_halls hf_hall_read(const uint8_t *plan, size_t plan_length) HF_NONNULL;
 hf_destination hf_hall_destination(const uint8_t *plan, size_t plan_length, uint64_t chute) HF_NONNULL;
 
 /* Reads a hall plan into two lists, each of which must have exactly as many elements as hf_hall_read answers entries. Answers what that does. Refuses with
-   5, 9. */
+   5, 9: the last also, at the place 0, where the plan is good and a list has another length. */
 hf_halls hf_hall_read_into(const uint8_t *plan, size_t plan_length, uint8_t *kinds, size_t kinds_length, uint32_t *values,
                            size_t values_length) HF_NONNULL;
 
@@ -316,10 +339,10 @@ hf_halls hf_hall_read_into(const uint8_t *plan, size_t plan_length, uint8_t *kin
    has is cut to a good one. */
 hf_length hf_hall_length(uint64_t outer, const uint8_t *kinds, size_t kinds_length, const uint32_t *values, size_t values_length) HF_NONNULL;
 
-/* Writes the plan with these halls, each number in the fewest groups, into out, which must have exactly the length that hf_hall_length answers. Answers the
-   number alone. Refuses with 5, 9: the first where out is longer than any plan, whatever the lists are. */
-uint8_t hf_hall_write(uint64_t outer, const uint8_t *kinds, size_t kinds_length, const uint32_t *values, size_t values_length, uint8_t *out,
-                      size_t out_length) HF_NONNULL;
+/* Writes the plan with these halls, each number in the fewest groups, into out, which must have exactly the length that hf_hall_length answers.
+   Refuses with 5, 9: the first where out is longer than any plan, whatever the lists are. */
+hf_written hf_hall_write(uint64_t outer, const uint8_t *kinds, size_t kinds_length, const uint32_t *values, size_t values_length, uint8_t *out,
+                         size_t out_length) HF_NONNULL;
 
 #ifdef __cplusplus
 }

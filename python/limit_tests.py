@@ -18,7 +18,10 @@ class Limits(unittest.TestCase):
             function(*arguments)
         refusal = caught.exception
         self.assertEqual((refusal.number, refusal.words), (number, WORDS[entry, number]))
-        self.assertEqual(str(refusal), f"refused {number}: {refusal.words}")
+        self.assertTrue(refusal.place is None or number == 9)  # place_tests has the places
+        at = "" if refusal.place is None else f" at byte {refusal.place}"
+        of = "" if refusal.malformed is None else f" of the {refusal.malformed} plan"
+        self.assertEqual(str(refusal), f"refused {number}{at}{of}: {refusal.words}")
 
     def test_hashes(self) -> None:
         string, message = bytes(4_097), bytes(MOST + 1)
@@ -113,7 +116,7 @@ class Limits(unittest.TestCase):
 
     def test_refusals(self) -> None:
         again = pickle.loads(pickle.dumps(Refusal("open", 8)))
-        self.assertEqual((again.number, str(again)), (8, "refused 8: the tag does not match"))
+        self.assertEqual((again.number, again.place, again.malformed, str(again)), (8, None, None, "refused 8: the tag does not match"))
         self.assertIsInstance(again, ValueError)
         lines = [f"{entry} {number} {words}" for (entry, number), words in WORDS.items()]
         self.assertEqual(lines, FILE.read_text(encoding="utf-8").splitlines())

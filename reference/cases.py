@@ -110,11 +110,12 @@ def check_session(case):
 
 
 def check_plan(case):
+    """The cases are older than the places of malformed plans and have none: number and value are compared, here and with two plans."""
     lent = data(case["plan"])
-    number, rows = plan.read(lent)
+    number, rows, _ = plan.read(lent)
     found = differences(case, number=number, rows=rows)
     for lookup in case["lookups"]:
-        number, destination = plan.destination(lent, lookup["chute"])
+        number, destination, _ = plan.destination(lent, lookup["chute"])
         where = f"chute {lookup['chute']}: "
         found += differences(lookup, where, number=number, destination=destination)
     return found
@@ -122,7 +123,7 @@ def check_plan(case):
 
 def check_two_plans(case):
     lent = {"site": data(case["site"]), "house": data(case["house"])}
-    number, which, offset, length = plan.row(lent["site"], lent["house"], case["chute"])
+    number, which, offset, length, _, _ = plan.row(lent["site"], lent["house"], case["chute"])
     part = lent[which][offset : offset + length] if which else b""
     return differences(case, **{"number": number, "from": which, "row": part.hex()})
 

@@ -4,19 +4,12 @@ from itertools import product
 
 import hall
 import plan
-from plan_cases import added, write_plan
+from plan_case import ANSWER, summed, write_plan
 
-hall.halls = functools.lru_cache(maxsize=16)(hall.halls)  # the same plan is asked for many chutes
+hall.reading = functools.lru_cache(maxsize=16)(hall.reading)  # the same plan is asked for many chutes
 ZEROS = 2**24  # from here on a number of bytes means zeros
 ROOM, BUFFER = 33_000, 65_539  # elements of a list and bytes of a buffer, of which a part is lent
 UNTOUCHED, UNTOUCHED_VALUE = 0xEE, 0xEEEEEEEE  # what lists and buffers hold first
-
-
-def summed(content, total=0):
-    """The checksum taken on by numbers one after another."""
-    for value in content:
-        total = added(total, value)
-    return total
 
 
 @functools.lru_cache(maxsize=64)
@@ -46,15 +39,16 @@ class Cases:
 
     def line(self, data, entries=None):
         """What a plan has, and the plan read into lists around so many entries (those that it has) and written again; of a short one lookups too."""
-        answer = hall.read(data)
-        n = answer[1] if entries is None else entries
+        number, found, outer, chutes, place = hall.read(data)
+        n = found if entries is None else entries
         self.put(b"l", data, length=n)
-        text = "%d:%d %d %d " % answer + "".join("%d " % read_into(data, *lengths) for lengths in product(around(n), around(n)))
-        number, _, outer, _, kinds, values = hall.read_into(data, n, n)
+        text = ANSWER % (number, found, place) + "%d %d " % (outer, chutes)
+        text += "".join("%d " % read_into(data, *lengths) for lengths in product(around(n), around(n)))
+        number, _, outer, _, kinds, values, _ = hall.read_into(data, n, n)
         self.out(text if number else text + write_each(outer, kinds, values, 0))
         if len(data) < 100:
-            self.summed(data, answer[3] + 3, n)
-            self.summed(data, answer[3] + 3, n, first=2**32)
+            self.summed(data, chutes + 3, n)
+            self.summed(data, chutes + 3, n, first=2**32)
             self.end()
 
     def summed(self, data, chutes, length, first=0, flat=None):
@@ -101,21 +95,21 @@ def filled(found, otherwise, length):
 
 def read_into(data, kinds_length, values_length, total=0):
     """The checksum taken on by what reading into such lists answers, and by both lists with two elements past their end."""
-    *answer, kinds, values = hall.read_into(data, kinds_length, values_length)
+    *answer, kinds, values, place = hall.read_into(data, kinds_length, values_length)
     lists = [*filled(kinds, UNTOUCHED, min(kinds_length + 2, ROOM)), *filled(values, UNTOUCHED_VALUE, values_length + 2)]
-    return summed([*answer, *lists], total)
+    return summed([*answer, place, *lists], total)
 
 
 def write(outer, kinds, values, lent):
     """What writing into so many bytes answers; a plan that was written is read again."""
-    number, data = hall.write(outer, kinds, values, lent)
+    number, data, place = hall.write(outer, kinds, values, lent)
     if number:
-        return "%d:%d " % (number, untouched(lent + 2))
-    return "0:%d %d " % (summed([*data, UNTOUCHED, UNTOUCHED]), read_into(data, len(kinds), len(values)))
+        return ANSWER % (number, untouched(lent + 2), place)
+    return ANSWER % (0, summed([*data, UNTOUCHED, UNTOUCHED]), place) + "%d " % read_into(data, len(kinds), len(values))
 
 
 def write_each(outer, kinds, values, otherwise):
     """How long the lists' plan is, and what writing answers for buffers around that length, or around another where they have no plan."""
-    number, needed = hall.length(outer, kinds, values)
+    number, needed, place = hall.length(outer, kinds, values)
     lengths = (*around(otherwise if number else needed), 0, 65_536, 65_537)
-    return "%d:%d " % (number, needed) + "".join(write(outer, kinds, values, lent) for lent in lengths)
+    return ANSWER % (number, needed, place) + "".join(write(outer, kinds, values, lent) for lent in lengths)

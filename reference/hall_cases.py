@@ -12,6 +12,7 @@ from hall_case import Cases
 from plan import written_number
 
 SAMPLE = [[7, 300], [], [2_097_151]]  # 16 bytes, with numbers of one, two and three groups
+ROOM = 524_288  # bytes of input that the program reads
 
 
 def nested(depth, innermost):
@@ -23,6 +24,7 @@ def lists_of(halls):
     """The three values that halls are outside their bytes."""
     entries = list(hall.entries_in(halls))
     return len(halls), [kind for kind, _ in entries], [value for _, value in entries]
+
 
 def examples(cases):
     cases.heading("examples")
@@ -72,6 +74,40 @@ def damaged(cases):
         cases.end()
 
 
+EIGHT = "01" * 15  # eight levels of one entry each, up to the entry on the eighth, whose kind is to stand at 15
+NINE = "01" * 15 + "00"  # an entry of the outermost hall that is a level too many
+# Malformed plans beside their good neighbours, for each row of the table in docs/RULES.md, "Places"; the chutes are below.
+PLACES = {
+    "a number cut": ("80", "8080", "808000", "0180", "018080", "01800007", "0100", "010080", "01008080", "0100808000", "0101", "010180", "0200AC0200"),
+    "a number that goes on": ("808080", "81808000", "01808080", "0181808000", "0100808080", "0100FFFFFF7F", "0101808080", "0101808000", "020007808080"),
+    "bytes after the last entry": ("0007", "010007FF", "01010080", "0101010007808080", "808000" "00"),
+    "another kind": ("0102", "010202", "018200", "01828000", "01FFFF7F", "018101", "02000702", "020007820000", "02010002", "020101000702", "02000701" "00"),
+    "a level": (EIGHT, EIGHT + "00", EIGHT + "0007", EIGHT + "01", EIGHT + "0101", EIGHT + "810000", EIGHT + "818000", EIGHT + "02", EIGHT + "8100"),
+}
+# Plans with two breaches, of which the first in reading order counts.
+TWO_BREACHES = (
+    "0202", "02020080", "0282", "028280", "02828080",  # another kind and a number that is cut, then a kind that is cut or goes on before its value is judged
+    "0302000080808000", "03008080800200", "0302008080", "030080808080",  # another kind before a number that goes on, the other way round, and one that is cut
+    "01020000", "0100070200", "010080808000", "0100078080",  # a bad entry and bytes after the last, then such bytes that are no entry
+    "020200" + NINE, "02" + NINE + "0200", EIGHT + "818080", EIGHT + "8180", EIGHT + "01808080", EIGHT + "820001",  # a level too many beside the others
+    "FFFF7F02", "FFFF7F80", "FFFFFF02", "0101FFFF7F02",  # more entries promised than could follow, and a bad one
+)
+
+
+def places(cases):
+    for title, plans in PLACES.items():
+        cases.heading(title)
+        for data in plans:
+            cases.line(bytes.fromhex(data), 8 if data.startswith(EIGHT) else 1)
+    cases.heading("two breaches")
+    for data in TWO_BREACHES:
+        cases.line(bytes.fromhex(data), 2)
+    cases.heading("a chute too many")
+    full = bytes(2 * 4_096)  # 4,096 chutes; what follows is another, its kind in up to three groups, or a level too many before it or after it
+    for count, rest in ((4_097, "00"), (4_097, "80"), (4_098, "800007" + NINE), (4_098, NINE + "80800007")):
+        cases.line(written_number(count) + full + bytes.fromhex(rest), 4_097)
+
+
 def building(chutes):
     """So many chutes in some 300 halls on three levels."""
     return [[[(511 * (14 * line + i)) % 2_097_152 for i in range(14) if 14 * line + i < chutes] for line in range(k, 300, 20)] for k in range(20)]
@@ -79,7 +115,7 @@ def building(chutes):
 
 def many(cases):
     cases.heading("many chutes")
-    for halls in (building(4_096), [*building(4_096), []], [*building(4_096), 0], [0] * 4_096, [0] * 4_097, [[[0] * 4_095], 7], [[[0] * 4_095], 7, 7]):
+    for halls in (building(4_096), [*building(4_096), []], [*building(4_096), 0], [0] * 4_096, [[[0] * 4_095], 7], [[[0] * 4_095], 7, 7]):
         cases.line(hall.bytes_of(halls), len(list(hall.entries_in(halls))))
     cases.heading("long")
     longest = [[[]] * 128, *[[]] * 32_637]
@@ -117,9 +153,11 @@ def written(cases):
 
 def main(arguments):
     cases = Cases()
-    for section in (examples, levels, kinds, promises, damaged, many, flat, written):
+    for section in (examples, levels, kinds, promises, damaged, places, many, flat, written):
         section(cases)
     made = cases.count.to_bytes(4, "little") + cases.input
+    if len(made) > ROOM:
+        sys.exit(f"hall_cases reads {ROOM} bytes, and the cases have {len(made)}")
     if arguments == ["--input"]:
         sys.stdout.buffer.write(made)
     elif (Path(__file__).resolve().parent.parent / "crates/hall_cases/stdin").read_bytes() != made:

@@ -4,100 +4,14 @@
     python3 reference/plan_cases.py --input > crates/plan_cases/stdin    the cases, in the form that crates/plan_cases/src/main.rt says
     python3 reference/plan_cases.py         > crates/plan_cases/stdout   what they are answered with; stops if the cases there are not these
 """
-import functools
 import sys
 from pathlib import Path
 
 import plan
+from plan_case import Cases, write_plan
 
-plan.rows_of = functools.lru_cache(maxsize=16)(plan.rows_of)  # the same plan is asked for thousands of chutes
-SOURCES = [None, "site", "house"]
 SAMPLE_ROWS = [0, 1, 127, 128, 300, 16383, 16384, 2097151]
-MODULUS = 2**32 - 5
-ZEROS = 2**24  # from here on a number of bytes means zeros
-BUFFER = 12_300  # bytes, each 0xEE, of which a part is lent to be written
-
-
-def write_plan(rows):
-    """The plan of these rows, None where they break the plan's rules."""
-    length = sum(len(plan.written_number(value)) for value in [len(rows), *rows])
-    return plan.write(rows, length)[1]
-
-
-def added(total, value):
-    """The checksum taken on by a number."""
-    return (total * 257 + value + 1) % MODULUS
-
-
-class Cases:
-    """The cases one after another, each with what it writes."""
-
-    def __init__(self):
-        self.input, self.output, self.count, self.total = bytearray(), [], 0, 0
-
-    def put(self, letter, first=b"", second=b"", chute=0):
-        lengths = [len(part) if any(part) or len(part) < 1000 else ZEROS + len(part) for part in (first, second)]
-        self.input += letter + b"".join(n.to_bytes(4, "little") for n in [*lengths, chute % 2**32, chute >> 32])
-        self.input += b"".join(part for part, n in zip((first, second), lengths) if n < ZEROS)
-        self.count += 1
-        if letter != b"s":
-            self.total = 0
-
-    def out(self, text):
-        self.output.append(text + "\n")
-
-    def heading(self, text):
-        self.put(b"h", text.encode())
-        self.out(text)
-
-    def line(self, data):
-        """The refusal and the number of rows, and lookups."""
-        count = plan.read(data)[1]
-        self.put(b"l", data, chute=count)
-        chutes = (0, 1, count, count + 1, plan.ROWS, 2**32 - 1, 2**32 + 1)
-        answers = [plan.read(data), *(plan.destination(data, chute) for chute in chutes)]
-        self.out("".join("%d:%d " % answer for answer in answers))
-
-    def summed(self, data, chutes):
-        """All answers of a plan, taken into the checksum."""
-        self.put(b"s", data, chute=chutes)
-        for answer in (plan.read(data), *(plan.destination(data, chute) for chute in range(chutes))):
-            self.total = added(added(self.total, answer[0]), answer[1])
-
-    def end(self):
-        """The checksum."""
-        self.out("%d " % self.total)
-        self.put(b"e")
-
-    def pair(self, site, house, chute):
-        self.put(b"p", site, house, chute)
-        number, source, start, length = plan.row(site, house, chute)
-        part = {"site": site, "house": house, None: b""}[source][start : start + length]
-        self.out("%d:%d %d %d %s" % (number, SOURCES.index(source), start, length, part.hex()))
-        self.out(part.hex() + "\n")  # once as returned, once as cut at its location
-
-    def written(self, rows):
-        """Rows written into buffers of the length they take, one byte more, one less, and none."""
-        self.put(b"w", b"".join(row.to_bytes(4, "little") for row in rows))
-        data = write_plan(rows)
-        needed = len(data or b"")
-        text = "%d:%d " % (9 if data is None else 0, needed)
-        for lent in (needed, needed + 1, max(needed - 1, 0), 0):
-            fits = data is not None and lent == len(data)
-            total = 0
-            for byte in (data + bytes([0xEE]) * (BUFFER - lent) if fits else bytes([0xEE]) * BUFFER):
-                total = added(total, byte)
-            text += "%d:%d " % (0 if fits else 9, total)
-        self.out(text)
-
-    def walked(self, data):
-        self.put(b"a", data)
-        walk, text = plan.walker(data), ""
-        for _ in range(12):
-            place = walk.place
-            number, destination, walk = plan.next_row(walk)
-            text += "%d %d:%d " % (place, number, destination)
-        self.out(text)
+ROOM = 262_144  # bytes of input that the program reads
 
 
 def examples(cases):
@@ -137,6 +51,33 @@ def edges(cases):
         cases.line(bytes.fromhex(data))
 
 
+# Malformed plans beside their good neighbours, for each row of the table in docs/RULES.md, "Places".
+PLACES = {
+    "a number cut": ("80", "8080", "808000", "02", "0207", "020780", "02078080", "0207808000", "02AC02", "02AC0207", "8200", "828000", "82800007AC"),
+    "a number that goes on": ("808080", "80808080", "808000", "FFFFFF00", "01808080", "01FFFFFFFF", "01808000", "0207808080", "020780808000", "0207808000"),
+    "too many rows": ("8120", "812007", "81A000", "FFFF7F", "808001", "8020", "80A000"),
+    "bytes after": ("0007", "800007", "01078080", "0207AC0207", "0207AC02", "01808000FF", "0080808000"),
+}
+# Plans with two breaches, of which the first in reading order counts.
+TWO_BREACHES = (
+    "812080808000", "8120808080", "812080", "81A00080", "FFFF7FFF", "80A080", "818080",  # too many rows that are bad too; a number of rows that goes on
+    "038080800007", "0307808080", "0380808080", "030780", "03FFFFFF0780", "0307FFFFFF80",  # a row that goes on, and one that is cut
+    "018080800007", "02078080800007", "0107808080", "010780",  # a bad row and bytes after the last, then such bytes that are no number
+)
+
+
+def places(cases):
+    for title, plans in PLACES.items():
+        cases.heading(title)
+        for data in plans:
+            cases.line(bytes.fromhex(data))
+    cases.heading("two breaches")
+    for data in TWO_BREACHES:
+        cases.line(bytes.fromhex(data))
+    cases.line(plan.written_number(4096) + b"\x01" * 4095 + b"\x80")
+    cases.line(plan.written_number(4097) + b"\x01" * 4096 + b"\x80")
+
+
 def many_rows(cases):
     cases.heading("many rows")
     body = bytes((7 * i + 3) % 128 for i in range(4098))
@@ -160,6 +101,12 @@ def pairs(cases):
     ):
         for chute in (0, 1, 2, 3, 4, 5, 4096, 2**32 - 1, 2**32 + 1):
             cases.pair(first, second, chute)
+    cases.heading("malformed pairs")
+    malformed = [bytes.fromhex(data) for data in ("0307AC", "0207808080", "812007", "02AC020700", "")]
+    for first in (site, none, long, *malformed):
+        for second in (house, none, long, *malformed):
+            if first in malformed or second in malformed:
+                cases.pair(first, second, 1)
 
 
 def written(cases):
@@ -172,17 +119,21 @@ def written(cases):
 
 
 def walked(cases):
-    """Asks of a walker, one after another: on a refused plan its number, past the last row 10."""
+    """Asks of a walker, one after another: on a refused plan its number and place, past the last row 10."""
     cases.heading("walked")
     for data in ("0307AC0200", "00", write_plan(SAMPLE_ROWS).hex(), "018700", "0180808000", "", "00" * 65537, "0000"):
+        cases.walked(bytes.fromhex(data))
+    for data in ("0307AC", "0207808080", "808080", "8120", "0307AC020007", "00" * 65536):
         cases.walked(bytes.fromhex(data))
 
 
 def main(arguments):
     cases = Cases()
-    for section in (examples, damaged, edges, many_rows, pairs, written, walked):
+    for section in (examples, damaged, edges, places, many_rows, pairs, written, walked):
         section(cases)
     made = cases.count.to_bytes(4, "little") + cases.input
+    if len(made) > ROOM:
+        sys.exit(f"plan_cases reads {ROOM} bytes, and the cases have {len(made)}")
     if arguments == ["--input"]:
         sys.stdout.buffer.write(made)
     elif (Path(__file__).resolve().parent.parent / "crates/plan_cases/stdin").read_bytes() != made:

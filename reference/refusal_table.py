@@ -3,7 +3,8 @@
     python3 reference/refusal_table.py
 
 Each entry's arguments are given with the number that each value calls for, 0 for a good one; the
-answer must be the smallest of them, and a refusal must be blank. Prints `N calls agree`, or each
+answer must be the smallest of them, and a refusal must be blank but for the place of a malformed
+plan, which is the first malformed one's where two are lent. Prints `N calls agree`, or each
 difference and exit status 1.
 """
 
@@ -36,10 +37,11 @@ TAG = [(SEALED_TAG, 0), (SEALED_TAG[:16], 0), (SEALED_TAG[:15], 7), (b"", 7), (b
 OPEN_LABEL = [(b"label", 0), (b"other", 8), (OVER, 5)]
 GENERATORS = {"cSHAKE generator": generator.CSHAKE, "KMAC generator": generator.KMAC}
 GOOD_PLAN, LONG_PLAN = bytes.fromhex("0307AC0200"), bytes(65_537)
-LENT_PLAN = [(GOOD_PLAN, 0), (b"", 9), (b"\x01", 9), (b"\x00\x00", 9), (LONG_PLAN, 5)]
+BAD_PLANS = {b"": 0, b"\x01": 1, b"\x00\x00": 1, b"\x01\x80\x80\x80": 3, b"\x81\x20\x07": 0}  # with their places
+LENT_PLAN = [(GOOD_PLAN, 0), *((lent, 9) for lent in BAD_PLANS), (LONG_PLAN, 5)]
 CHUTE = [(1, 0), (3, 0), (0, 10), (4, 10), (2**32 - 1, 10)]
 GOOD_HALLS = bytes.fromhex("02010200" "0700AC02" "0000")  # a hall of two chutes, and a chute: four entries, 10 bytes
-BAD_HALLS = [b"", b"\x01", b"\x00\x00", b"\x01\x02\x00", b"\x01" * 16 + b"\x00", b"\x81\x20" + bytes(2 * 4_097)]
+BAD_HALLS = {b"": 0, b"\x01": 1, b"\x00\x00": 1, b"\x01\x02\x00": 1, b"\x01" * 16 + b"\x00": 15, b"\x81\x20" + bytes(2 * 4_097): 8_194}
 LENT_HALLS = [(GOOD_HALLS, 0), *((lent, 9) for lent in BAD_HALLS), (LONG_PLAN, 5)]
 FOUR = [(4, 0), (0, 9), (3, 9), (5, 9)]
 OUTER = [(2, 0), (1, 9), (3, 9), (2_097_152, 9), (2**32 + 2, 9)]
@@ -73,6 +75,19 @@ def empty_halls_length(count, more):
     return hall.length(count + more, [1] * count, [0] * count)
 
 
+def placed(*blank):
+    """What follows the number of a refusal by the arguments' values: this, and last the place of the plan if that is malformed."""
+    return lambda number, values: (*blank, (BAD_PLANS | BAD_HALLS).get(values[0], 0) if number == 9 else 0)
+
+
+def row_refusal(number, values):
+    """The same where two plans are lent, which names the malformed one before its place."""
+    site, house, _ = values
+    if number != 9:
+        return None, 0, 0, None, 0
+    return None, 0, 0, *(("site", BAD_PLANS[site]) if site in BAD_PLANS else ("house", BAD_PLANS[house]))
+
+
 def generator_entries(title, kind):
     """The entries of one generator, as below."""
     fresh = generator.Generator(kind)
@@ -84,7 +99,7 @@ def generator_entries(title, kind):
     }
 
 
-# Entry: (call, the answer after the number of a refusal, the values of its arguments).
+# Entry: (call, the answer after the number of a refusal or what works that out, the values of its arguments).
 ONE_SHOT = {
     "cSHAKE256": (cshake256, (0, None), [MESSAGE, OUTPUT, NAME, STRING]),
     "KMAC256": (kmac256, (0, None), [KMAC_KEY, MESSAGE, [(1, 0), (0, 6), (LIMIT + 1, 6)], STRING]),
@@ -105,20 +120,20 @@ STATES = {
     "give, not started": (partial(sessions.give, NOT_STARTED), (None, NOT_STARTED), [[(0, 0), (1, 6)]]),
 }
 PLANS = {
-    "read": (plan.read, (0,), [LENT_PLAN]),
-    "destination": (plan.destination, (0,), [LENT_PLAN, CHUTE]),
-    "row": (plan.row, (None, 0, 0), [LENT_PLAN, LENT_PLAN, CHUTE]),
-    "write": (written, (None,), [[(2_097_151, 0), (2_097_152, 9)], [(5, 0), (4, 9), (6, 9)]]),
-    "write, too many": (plan.write, (None,), [[([0] * 4_097, 9)], [(4_099, 9)]]),
+    "read": (plan.read, placed(0), [LENT_PLAN]),
+    "destination": (plan.destination, placed(0), [LENT_PLAN, CHUTE]),
+    "row": (plan.row, row_refusal, [LENT_PLAN, LENT_PLAN, CHUTE]),
+    "write": (written, (None, 0), [[(2_097_151, 0), (2_097_152, 9)], [(5, 0), (4, 9), (6, 9)]]),
+    "write, too many": (plan.write, (None, 0), [[([0] * 4_097, 9)], [(4_099, 9)]]),
 }
 HALLS = {
-    "hall read": (hall.read, (0, 0, 0), [LENT_HALLS]),
-    "hall destination": (hall.destination, (0,), [LENT_HALLS, CHUTE]),
-    "hall read into": (hall.read_into, (0, 0, 0, None, None), [LENT_HALLS, FOUR, FOUR]),
-    "hall length": (hall.length, (0,), [OUTER, KINDS, VALUES]),
-    "hall length, long": (empty_halls_length, (0,), [EMPTY_HALLS, [(0, 0)]]),
-    "hall length, long and broken": (empty_halls_length, (0,), [[(32_766, 9), (32_767, 9)], [(1, 9), (-1, 9)]]),
-    "hall write": (hall.write, (None,), [OUTER, KINDS, VALUES, [(10, 0), (9, 9), (11, 9), (65_536, 9), (65_537, 5)]]),
+    "hall read": (hall.read, placed(0, 0, 0), [LENT_HALLS]),
+    "hall destination": (hall.destination, placed(0), [LENT_HALLS, CHUTE]),
+    "hall read into": (hall.read_into, placed(0, 0, 0, None, None), [LENT_HALLS, FOUR, FOUR]),
+    "hall length": (hall.length, (0, 0), [OUTER, KINDS, VALUES]),
+    "hall length, long": (empty_halls_length, (0, 0), [EMPTY_HALLS, [(0, 0)]]),
+    "hall length, long and broken": (empty_halls_length, (0, 0), [[(32_766, 9), (32_767, 9)], [(1, 9), (-1, 9)]]),
+    "hall write": (hall.write, (None, 0), [OUTER, KINDS, VALUES, [(10, 0), (9, 9), (11, 9), (65_536, 9), (65_537, 5)]]),
 }
 
 
@@ -126,7 +141,7 @@ def complaint(expected, answer, blank):
     """What is wrong with an answer, None if nothing is."""
     if answer[0] != expected:
         return f"expected {expected}, answered {answer[0]}"
-    return f"refusal {expected} is not blank" if expected and answer[1:] != blank else None
+    return f"refusal {expected} is {answer[1:]}, not {blank}" if expected and answer[1:] != blank else None
 
 
 def wrong_calls(title, call, blank, arguments):
@@ -134,8 +149,8 @@ def wrong_calls(title, call, blank, arguments):
     mixes, wrong = list(product(*arguments)), []
     for mix in mixes:
         numbers = [number for _, number in mix]
-        expected = min(filter(None, numbers), default=0)
-        found = complaint(expected, call(*(value for value, _ in mix)), blank)
+        expected, values = min(filter(None, numbers), default=0), [value for value, _ in mix]
+        found = complaint(expected, call(*values), blank(expected, values) if callable(blank) else blank)
         if found:
             wrong.append(f"{title}, arguments that call for {numbers}: {found}")
     return len(mixes), wrong

@@ -1,8 +1,8 @@
 """Hailfeather from Python: Keccak-p[1600, 24], cSHAKE256, KMAC256 and KMACXOF256, running sessions, sealing and opening, the cSHAKE generator
 and the KMAC generator, chute plans and hall plans (the submodules `plan` and `hall`), all by the proved library.
 
-A call that the library refuses raises Refusal, a ValueError with the number and its words. Bytes may be bytes, a bytearray or a memoryview; none
-may be changed by another thread while a call reads it.
+A call that the library refuses raises Refusal, a ValueError with the number and its words, and for a malformed plan the byte. Bytes may be bytes,
+a bytearray or a memoryview; none may be changed by another thread while a call reads it.
 
 >>> sealed = seal(bytes(range(32)), b"IV 1", plan.write([7, 300, 0]), label=b"depot 7")
 >>> opened = open_sealed(bytes(range(32)), b"IV 1", sealed.ciphertext, sealed.tag, label=b"depot 7")

@@ -3,6 +3,9 @@
 >>> written = write_nested([[7, 300], 0])
 >>> written.hex(" "), summary(written), nested(written)
 ('02 01 02 00 07 00 ac 02 00 00', Summary(outer=2, entries=4, chutes=3), [[7, 300], 0])
+
+The Refusal of a malformed plan tells the place of the first breach in reading order: as in a chute plan, and that of the first byte of a kind which is
+neither 0 nor 1, or of a hall beyond the eighth level, or of a chute beyond the 4,096th.
 """
 
 from ctypes import c_uint8, c_uint32
@@ -11,7 +14,7 @@ from typing import Any, Iterator, List, NamedTuple, Sequence, Tuple
 
 from .lending import LARGEST_DESTINATION, LARGEST_SIZE, BytesLike, lent, number_of, room_for
 from .library import functions
-from .refusal import accept
+from .refusal import accept, accept_plan
 
 CHUTE = 0  # the kind of an entry with a destination
 HALL = 1  # the kind of an entry with a hall
@@ -37,9 +40,15 @@ class Halls(NamedTuple):
 
 
 def summary(plan: BytesLike) -> Summary:
-    """How many entries and chutes a hall plan has. Refuses with 5, 9."""
+    """How many entries and chutes a hall plan has. Refuses with 5, 9.
+
+    >>> summary(bytes([1, 2, 0]))
+    Traceback (most recent call last):
+    ...
+    hailfeather.refusal.Refusal: refused 9 at byte 1: the plan is malformed
+    """
     answer = functions.hf_hall_read(*lent("plan", plan))
-    accept("hall_read", answer.number)
+    accept_plan("hall_read", answer)
     return Summary(answer.outer, answer.entries, answer.chutes)
 
 
@@ -54,7 +63,7 @@ def destination(plan: BytesLike, chute: int) -> int:
     hailfeather.refusal.Refusal: refused 10: the plan has no such chute
     """
     answer = functions.hf_hall_destination(*lent("plan", plan), number_of("chute", chute, LARGEST_SIZE))
-    accept("hall_destination", answer.number)
+    accept_plan("hall_destination", answer)
     return answer.destination
 
 
@@ -66,10 +75,10 @@ def read(plan: BytesLike) -> Halls:
     """
     lent_plan = lent("plan", plan)
     answer = functions.hf_hall_read(*lent_plan)
-    accept("hall_read", answer.number)
+    accept_plan("hall_read", answer)
     kinds, values = (c_uint8 * answer.entries)(), (c_uint32 * answer.entries)()
     answer = functions.hf_hall_read_into(*lent_plan, kinds, len(kinds), values, len(values))
-    accept("hall_read_into", answer.number)
+    accept_plan("hall_read_into", answer)
     return Halls(answer.outer, list(kinds), list(values))
 
 
@@ -85,7 +94,7 @@ def write(outer: int, kinds: Sequence[int], values: Sequence[int]) -> bytes:
     needed = functions.hf_hall_length(*lists)
     accept("hall_length", needed.number)
     room = room_for(needed.length)
-    accept("hall_write", functions.hf_hall_write(*lists, room, len(room)))
+    accept("hall_write", functions.hf_hall_write(*lists, room, len(room)).number)
     return bytes(room)
 
 

@@ -8,7 +8,7 @@ BYTES = POINTER(c_uint8)
 LENT = [BYTES, c_size_t]  # a pointer to bytes, followed by their number
 DESTINATIONS = [POINTER(c_uint32), c_size_t]
 HALLS = [*LENT, POINTER(c_uint32), c_size_t]  # kinds and values
-VERSION = 100  # HF_VERSION of include/hailfeather.h, 0.1.0
+VERSION = 200  # HF_VERSION of include/hailfeather.h, 0.2.0
 
 FUNCTIONS = {
     "hf_version": (c_uint32, []),
@@ -30,16 +30,16 @@ FUNCTIONS = {
     "hf_kmac_generator_draw": (structs.KmacDraw, [structs.KmacGeneratorState, *LENT * 2]),
     "hf_plan_read": (structs.Rows, LENT),
     "hf_plan_destination": (structs.Destination, [*LENT, c_uint64]),
-    "hf_plan_row": (structs.RowPlace, [*LENT * 2, c_uint64]),
+    "hf_plan_row": (structs.RowLocation, [*LENT * 2, c_uint64]),
     "hf_plan_length": (structs.Length, DESTINATIONS),
-    "hf_plan_write": (c_uint8, [*DESTINATIONS, *LENT]),
+    "hf_plan_write": (structs.Written, [*DESTINATIONS, *LENT]),
     "hf_plan_start": (structs.Cursor, LENT),
     "hf_plan_step": (structs.Walk, [*LENT, structs.Cursor]),
     "hf_hall_read": (structs.HallSummary, LENT),
     "hf_hall_destination": (structs.Destination, [*LENT, c_uint64]),
     "hf_hall_read_into": (structs.HallSummary, [*LENT, *HALLS]),
     "hf_hall_length": (structs.Length, [c_uint64, *HALLS]),
-    "hf_hall_write": (c_uint8, [c_uint64, *HALLS, *LENT]),
+    "hf_hall_write": (structs.Written, [c_uint64, *HALLS, *LENT]),
 }
 
 

@@ -3,6 +3,9 @@
 >>> written = write([7, 300, 0])
 >>> written.hex(" "), rows(written), list(walk(written))
 ('03 07 ac 02 00', 3, [7, 300, 0])
+
+The Refusal of a malformed plan tells the place of the first breach in reading order: of the first missing byte, which is the plan's length, where a number
+ends too early; of a number's third byte where it goes on after that; 0 where there are more than 4,096 rows; and of the first byte after the last row.
 """
 
 from ctypes import c_uint32, string_at
@@ -11,12 +14,11 @@ from typing import Any, Iterable, Iterator, NamedTuple, Tuple
 
 from .lending import LARGEST_DESTINATION, LARGEST_SIZE, BytesLike, lent, number_of, room_for
 from .library import functions
-from .refusal import accept
+from .refusal import SOURCES, accept, accept_plan
 from .structs import Cursor
 
 PLAN_LIMIT = 65_536  # bytes: a longer plan is refused
 ROWS_LIMIT = 4_096  # rows: a plan with more is refused
-SOURCES = {1: "site", 2: "house"}
 
 
 class Row(NamedTuple):
@@ -28,9 +30,15 @@ class Row(NamedTuple):
 
 
 def rows(plan: BytesLike) -> int:
-    """How many rows a plan has. Refuses with 5, 9."""
+    """How many rows a plan has. Refuses with 5, 9.
+
+    >>> rows(bytes([1, 128, 128, 128, 0]))
+    Traceback (most recent call last):
+    ...
+    hailfeather.refusal.Refusal: refused 9 at byte 3: the plan is malformed
+    """
     answer = functions.hf_plan_read(*lent("plan", plan))
-    accept("plan_read", answer.number)
+    accept_plan("plan_read", answer)
     return answer.rows
 
 
@@ -45,7 +53,7 @@ def destination(plan: BytesLike, chute: int) -> int:
     hailfeather.refusal.Refusal: refused 10: the plan has no such chute
     """
     answer = functions.hf_plan_destination(*lent("plan", plan), number_of("chute", chute, LARGEST_SIZE))
-    accept("plan_destination", answer.number)
+    accept_plan("plan_destination", answer)
     return answer.destination
 
 
@@ -54,10 +62,14 @@ def row(site: BytesLike, house: BytesLike, chute: int) -> Row:
 
     >>> row(bytes([1, 9]), bytes([3, 7, 172, 2, 0]), 2)
     Row(source='house', start=2, bytes=b'\\xac\\x02')
+    >>> row(bytes([1, 9]), bytes([3, 7, 172, 2]), 1)
+    Traceback (most recent call last):
+    ...
+    hailfeather.refusal.Refusal: refused 9 at byte 4 of the house plan: the plan is malformed
     """
     lent_plans = {"site": lent("site", site), "house": lent("house", house)}
     answer = functions.hf_plan_row(*lent_plans["site"], *lent_plans["house"], number_of("chute", chute, LARGEST_SIZE))
-    accept("plan_row", answer.number)
+    accept_plan("plan_row", answer)
     source = SOURCES[answer.source]
     return Row(source, answer.start, string_at(*lent_plans[source])[answer.start : answer.start + answer.length])
 
@@ -69,7 +81,7 @@ def write(destinations: Iterable[int]) -> bytes:
     needed = functions.hf_plan_length(*lent_rows)
     accept("plan_length", needed.number)
     room = room_for(needed.length)
-    accept("plan_write", functions.hf_plan_write(*lent_rows, room, len(room)))
+    accept("plan_write", functions.hf_plan_write(*lent_rows, room, len(room)).number)
     return bytes(room)
 
 
@@ -78,7 +90,7 @@ def walk(plan: BytesLike) -> Iterator[int]:
     pointer, length = lent("plan", plan)
     lent_plan = lent("plan", string_at(pointer, min(length, PLAN_LIMIT + 1)))  # a copy, since the plan must not change meanwhile
     cursor = functions.hf_plan_start(*lent_plan)
-    accept("plan_start", cursor.number)
+    accept_plan("plan_start", cursor)
     return steps(lent_plan, cursor)
 
 

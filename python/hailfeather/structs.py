@@ -57,40 +57,53 @@ class KmacDraw(Structure):
 class Rows(Structure):
     """hf_rows"""
 
-    _fields_ = [("rows", c_uint32), ("number", c_uint8)]
+    _fields_ = [("place", c_size_t), ("rows", c_uint32), ("number", c_uint8)]
 
 
 class Destination(Structure):
     """hf_destination"""
 
-    _fields_ = [("destination", c_uint32), ("number", c_uint8)]
+    _fields_ = [("place", c_size_t), ("destination", c_uint32), ("number", c_uint8)]
 
 
-class RowPlace(Structure):
+class RowLocation(Structure):
     """hf_row"""
 
-    _fields_ = [("start", c_size_t), ("length", c_size_t), ("source", c_uint8), ("number", c_uint8)]
+    _fields_ = [
+        ("start", c_size_t),
+        ("length", c_size_t),
+        ("place", c_size_t),
+        ("source", c_uint8),
+        ("malformed", c_uint8),
+        ("number", c_uint8),
+    ]
 
 
 class Length(Structure):
     """hf_length"""
 
-    _fields_ = [("length", c_size_t), ("number", c_uint8)]
+    _fields_ = [("length", c_size_t), ("place", c_size_t), ("number", c_uint8)]
+
+
+class Written(Structure):
+    """hf_written"""
+
+    _fields_ = [("place", c_size_t), ("number", c_uint8)]
 
 
 class Cursor(Structure):
     """hf_cursor"""
 
-    _fields_ = [("at", c_size_t), ("number", c_uint8)]
+    _fields_ = [("at", c_size_t), ("place", c_size_t), ("number", c_uint8)]
 
 
 class Walk(Structure):
     """hf_walk"""
 
-    _fields_ = [("next", c_size_t), ("destination", c_uint32), ("number", c_uint8)]
+    _fields_ = [("next", c_size_t), ("place", c_size_t), ("destination", c_uint32), ("number", c_uint8)]
 
 
 class HallSummary(Structure):
     """hf_halls"""
 
-    _fields_ = [("entries", c_size_t), ("outer", c_uint32), ("chutes", c_uint32), ("number", c_uint8)]
+    _fields_ = [("entries", c_size_t), ("place", c_size_t), ("outer", c_uint32), ("chutes", c_uint32), ("number", c_uint8)]

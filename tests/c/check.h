@@ -29,6 +29,9 @@ bool filled_with(const lent *buffer, const uint8_t *all); /* the lent bytes are 
 #define TEXT(string) (const uint8_t *)(string), sizeof(string) - 1
 #define NONE TEXT("")
 
+/* Bytes and their number, as two arguments. */
+#define BYTES(...) (const uint8_t[]){__VA_ARGS__}, sizeof(const uint8_t[]){__VA_ARGS__}
+
 /* 16,777,217 bytes of zero: one more than a message or an output may have. */
 enum { MOST = 16777216, TOO_MANY = MOST + 1 };
 extern uint8_t big[TOO_MANY];
@@ -41,6 +44,8 @@ void check_generators(void);
 void check_plans(void);
 void check_halls(void);
 void check_hall_limits(void);
+void check_places(void);
+void check_hall_places(void);
 void check_stack(void);
 
 #endif

@@ -43,7 +43,9 @@ static bool all_answer(uint32_t outer, uint32_t chutes, uint8_t reading, uint8_t
     bool answers = read.number == reading && read.entries == done && read.outer == (reading == 0 ? outer : 0) && read.chutes == (reading == 0 ? chutes : 0) &&
                    into.number == read.number && into.entries == read.entries && into.outer == read.outer && into.chutes == read.chutes &&
                    hf_hall_destination(plan, length, 0).number == (reading == 0 ? 10 : reading) && needed.number == writing && needed.length == written &&
-                   hf_hall_write(outer, kinds, entries, values, entries, out, length) == writing;
+                   needed.place == 0 && into.place == read.place && (reading == 9 || read.place == 0);
+    hf_written wrote = hf_hall_write(outer, kinds, entries, values, entries, out, length);
+    answers = answers && wrote.number == writing && wrote.place == 0;
     return answers && memcmp(read_kinds, kinds, done) == 0 && memcmp(read_values, values, done * sizeof *values) == 0 && memcmp(out, plan, written) == 0 &&
            memcmp(read_kinds + done, before, sizeof read_kinds - done) == 0 && memcmp(out + written, before, sizeof out - written) == 0 &&
            memcmp(read_values + done, before, (LONGEST - done) * sizeof *values) == 0;
@@ -91,13 +93,13 @@ static void bytes(void) {
         add(HF_CHUTE, sides[i].destination, 1);
         EXPECT(length == sides[i].length && all_answer(MOST_ENTRIES - 1, 1, expected, expected));
     }
-    EXPECT(hf_hall_write(MOST_ENTRIES - 1, kinds, entries, values, entries, plan, LONGEST) == 9);
+    EXPECT(hf_hall_write(MOST_ENTRIES - 1, kinds, entries, values, entries, plan, LONGEST).number == 9);
     start(LONGEST);
     add(HF_HALL, 0, LONGEST);
     EXPECT(all_answer(LONGEST, 0, 5, 5));
     kinds[LONGEST - 1] = 2; /* broken lists have no length, be they as long as they may */
     EXPECT(hf_hall_length(LONGEST, kinds, entries, values, entries).number == 9);
-    EXPECT(hf_hall_write(LONGEST, kinds, entries, values, entries, plan, LONGEST + 1) == 5);
+    EXPECT(hf_hall_write(LONGEST, kinds, entries, values, entries, plan, LONGEST + 1).number == 5);
     kinds[LONGEST - 1] = HF_HALL;
     EXPECT(hf_hall_length(LONGEST - 1, kinds, entries, values, entries).number == 9);
     EXPECT(hf_hall_length(LONGEST + 1, kinds, entries, values, entries).number == 9);

@@ -61,6 +61,9 @@ int main(int count, char **words) {
     check_halls();
     check_hall_limits();
     report("hall plans");
+    check_places();
+    check_hall_places();
+    report("places of malformed plans");
     check_stack();
     report("use of the stack");
     printf("%d checks, %d failed\n", checked, failed);

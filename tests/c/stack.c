@@ -34,13 +34,13 @@ static void reading(void) { number = hf_plan_read(plan, sizeof plan).number; }
 static void asking(void) { number = hf_plan_destination(plan, sizeof plan, 3).number; }
 static void looking(void) { number = hf_plan_row(plan, sizeof plan, plan, sizeof plan, 3).number; }
 static void measuring(void) { number = hf_plan_length(rows, 3).number; }
-static void writing(void) { number = hf_plan_write(rows, 3, out, sizeof plan); }
+static void writing(void) { number = hf_plan_write(rows, 3, out, sizeof plan).number; }
 static void walking(void) { number = hf_plan_step(plan, sizeof plan, hf_plan_start(plan, sizeof plan)).number; }
 static void reading_halls(void) { number = hf_hall_read(halls, sizeof halls).number; }
 static void asking_halls(void) { number = hf_hall_destination(halls, sizeof halls, 1).number; }
 static void reading_into(void) { number = hf_hall_read_into(halls, sizeof halls, read_kinds, 8, read_values, 8).number; }
 static void measuring_halls(void) { number = hf_hall_length(1, kinds, 8, values, 8).number; }
-static void writing_halls(void) { number = hf_hall_write(1, kinds, 8, values, 8, out, sizeof halls); }
+static void writing_halls(void) { number = hf_hall_write(1, kinds, 8, values, 8, out, sizeof halls).number; }
 
 /* The bytes of the stack that this work leaves changed. */
 static size_t touched(uint8_t *stack, void (*work)(void)) {

@@ -11,7 +11,7 @@ gives halls.txt hall report - <halls
 gives halls.txt hall report -- halls
 
 # For each expression over the reference's halls, one a line, a plan NUMBER.plan and its report NUMBER.txt, with the same plan in the fewest groups, or its
-# refusal. deep(8, [5]) has 8 levels and a chute on the last of them, wide(8, 4) has 8 levels of 4 halls each.
+# refusal and its place. deep(8, [5]) has 8 levels and a chute on the last of them, wide(8, 4) has 8 levels of 4 halls each.
 cat >cases.py <<'PYTHON'
 import sys, hall
 def deep(levels, entries):
@@ -29,11 +29,12 @@ def lines(entries, chute, indentation):
     return chute
 for case, expression in enumerate(sys.stdin):
     plan = eval(expression)
-    number, entries, outer, chutes = hall.read(plan)
+    found = hall.reading(plan)
+    report = [f"chutes {len(hall.destinations(found.content))}\n", *lines(found.content, 0, "")]
     open(f"{case}.plan", "wb").write(plan)
-    open(f"{case}.txt", "w").writelines([f"refused {number}\n"] if number else [f"chutes {chutes}\n", *lines(hall.halls(plan), 0, "")])
-    if not number:
-        open(f"{case}.least", "wb").write(hall.bytes_of(hall.halls(plan)))
+    open(f"{case}.txt", "w").writelines([f"9@{found.place}" if found.number == 9 else f"{found.number}"] if found.number else report)
+    if not found.number:
+        open(f"{case}.least", "wb").write(hall.bytes_of(found.content))
 PYTHON
 mkdir cases
 (cd cases && python3 ../cases.py) <<'PLANS'
@@ -61,6 +62,14 @@ b'\x01\x01\x01\x00\x07\x00\x08'
 b'\x02\x01\x02\x00\x07\x00\xac\x02\x00\x00\x00'
 b'\x02\x01\x02\x00\x07\x00\xac\x02\x00'
 b'\x01\x00\x80\x80\x80\x00'
+b'\x01\x02\x80'
+b'\x01\x82'
+b'\x03\x02\x00\x00\x80\x80\x80'
+b'\x03\x00\x80\x80\x80\x02\x00'
+b'\x01' * 15 + b'\x01'
+b'\x01' * 15 + b'\x81'
+b'\x81\x20' + b'\x00' * 8193
+b'\x81\x20' + b'\x00' * 8192 + b'\x80'
 b'\x00' * 65536
 b'\x00' * 65537
 hall.bytes_of([[]] * 32765 + [128])
@@ -78,11 +87,11 @@ for plan in cases/*.plan; do
     refuses hall_destination 10 hall lookup 0 "$plan"
     refuses hall_destination 10 hall lookup $(($(sed -n 's/^chutes //p' "$case.txt") + 1)) "$plan"
   else
-    refuses hall_read "$(sed 's/refused //' "$case.txt")" hall report "$plan"
-    refuses hall_destination "$(sed 's/refused //' "$case.txt")" hall lookup 1 <"$plan"
+    refuses hall_read "$(cat "$case.txt")" hall report "$plan"
+    refuses hall_destination "$(cat "$case.txt")" hall lookup 1 <"$plan"
   fi
 done
-that 'not every hall plan was tried' test "$(find cases -name '*.plan' | wc -l)" = 28
+that 'not every hall plan was tried' test "$(find cases -name '*.plan' | wc -l)" = 36
 refuses hall_read 5 hall report </dev/zero
 refuses hall_destination 5 hall lookup 1 </dev/zero
 

@@ -8,13 +8,16 @@ gives report plan report <plan
 gives report plan report - <plan
 gives report plan report -- plan
 
-# the reference's report, and back from it to the plan; or refused with the reference's number
+# the reference's report, and back from it to the plan; or refused with the reference's number and place
 while read -r expression; do
   reference "put($expression)" >case
   python3 "$repository/reference/plan.py" <case >want
   if grep -q refused want; then
-    refuses plan_start "$(sed 's/refused //' want)" plan report case
-    refuses plan_destination "$(sed 's/refused //' want)" plan lookup 1 <case
+    refusal=$(sed 's/refused //; s/ at /@/' want)
+    refuses plan_start "$refusal" plan report case
+    refuses plan_destination "$refusal" plan lookup 1 <case
+    [ "${refusal%@*}" != 9 ] || refuses plan_row "$refusal:site" plan lookup 1 case --house plan
+    [ "${refusal%@*}" != 9 ] || refuses plan_row "$refusal:house" plan lookup 1 plan --house case
   else
     gives want plan report <case
     gives case plan write want
@@ -27,6 +30,14 @@ b'\x01\x07\x07'
 b'\x03\x07\xac\x02'
 b'\x80\x20' + b'\xff\xff\x7f' * 4096
 b'\x81\x20' + b'\x01' * 4097
+b'\x80\x20' + b'\x01' * 4097
+b'\x81\xa0\x00'
+b'\x81\xa0'
+b'\x80\x80\x80'
+b'\x02\x80\x80\x80\x80'
+b'\x02\x80\x80\x00\x80'
+b'\x01\x80\x80\x80\x07\x07'
+b'\x81\x20\x80\x80\x80'
 b'\x00' * 65536
 b'\x00' * 65537
 PLANS
@@ -57,11 +68,21 @@ says '0 house' plan lookup --house=plan 3 site
 refuses plan_row 10 plan lookup 4 site --house plan
 refuses plan_row 10 plan lookup 0 site --house plan
 refuses plan_row 10 plan lookup 4294967297 site --house plan
-refuses plan_row 9 plan lookup 1 site --house /dev/null
-refuses plan_row 9 plan lookup 2 /dev/null --house plan
+refuses plan_row 9@0:house plan lookup 1 site --house /dev/null
+refuses plan_row 9@0:site plan lookup 2 /dev/null --house plan
 refuses plan_row 5 plan lookup 1 site --house long
 refuses plan_row 5 plan lookup 1 /dev/null --house /dev/zero
 refuses plan_row 5 plan lookup 1 /dev/zero --house /dev/null
+
+# where a plan is malformed: in words, 3,000 rows of which the last is cut, and both plans of two
+run plan report < <(printf '\001\200\200\200\000')
+that 'the place is not in words' grep -qx 'refused 9 at byte 3: the plan is malformed' err
+seq 3000 | hailfeather plan write -o rows.plan && head -c -1 rows.plan >short.plan
+refuses plan_start "9@$(stat -c %s short.plan)" plan report short.plan
+printf '\000\000' >after.plan
+refuses plan_row 9@1:site plan lookup 1 after.plan --house short.plan
+refuses plan_row "9@$(stat -c %s short.plan):site" plan lookup 1 short.plan --house after.plan
+refuses plan_row "9@$(stat -c %s short.plan):house" plan lookup 1 site --house short.plan
 fails 64 'cannot both be read' plan lookup 1 --house - <plan
 
 # write: every way to say the same rows

@@ -1,4 +1,5 @@
--- The refusal table's numbers; what a call hands back by its number; and laws.
+-- The refusal table's numbers; what a call hands back by its number; where a plan is malformed; and laws.
 pub mod Numbers
 pub mod Done
+pub mod Breaches
 pub mod Laws

@@ -38,6 +38,9 @@ pub const MALFORMED_PLAN: u8 = 9;
 // The plan has no such chute.
 pub const NO_SUCH_CHUTE: u8 = 10;
 
+// The place that an answer on plans tells where nothing that was read is malformed, as specs/Breaches.antt has it.
+pub const NO_PLACE: usize = 0;
+
 // The permutations that a call took, 0 on a refusal, and its number; as C has it too.
 #[repr(C)]
 pub struct Outcome {

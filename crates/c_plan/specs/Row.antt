@@ -1,4 +1,5 @@
--- The row of a chute in two plans as C sees it: the plan that it came from is a number, 0 for neither, 1 for the site plan, 2 for the house plan.
+-- The row of a chute in two plans as C sees it: the plan that it came from and the plan that is malformed are numbers, 0 for neither, 1 for the site plan, 2
+-- for the house plan.
 use Prim.Native.Nat.{ℕ}
 use Rattle.plan_pair.specs.declared.Source.{Source}
 use Rattle.plan_pair.specs.declared.Source.the-variants.{Neither, Site, House}
@@ -11,4 +12,12 @@ sourceNumber Site = 1
 sourceNumber House = 2
 
 abbrev pub exportedLocation : RowLocation → CRow
-exportedLocation l = record { start = l .start; length = l .length; source = sourceNumber (l .source); number = l .number }
+exportedLocation l =
+    record {
+      start = l .start;
+      length = l .length;
+      place = l .place;
+      source = sourceNumber (l .source);
+      malformed = sourceNumber (l .malformed);
+      number = l .number;
+    }

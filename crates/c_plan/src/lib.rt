@@ -1,6 +1,6 @@
 // The row of a chute in two plans and an ask of a walk as C has them (docs/RULES.md, 'Chute plan'): an offset, a length and the number of the plan, since no
-// reference can be handed to C; and of where a walk stands next the place alone, since its number is that of the cursor before. The crate `hailfeather` gives
-// the functions their names in C; the other questions on plans need no conversion.
+// reference can be handed to C; and of the next cursor of a walk only where it stands, since the rest is that of the cursor before. The crate `hailfeather`
+// gives the functions their names in C; the other questions on plans need no conversion.
 ghost use mathlib.Core.Path.{_≡_};
 ghost use Rattle.plan_pair.specs.Pair.{locationOf};
 ghost use Rattle.plan_walk.specs.Walk.{walkStep};
@@ -13,8 +13,10 @@ use plan_walk::Cursor;
 pub struct CRow {
     pub start: usize,
     pub length: usize,
-    // 0 is neither plan, 1 the site plan, 2 the house plan.
+    pub place: usize,
+    // Two plans by their numbers: 0 is neither, 1 the site plan, 2 the house plan.
     pub source: u8,
+    pub malformed: u8,
     pub number: u8,
 }
 
@@ -34,10 +36,14 @@ pub fn row(site: &[u8], house: &[u8], chute: u64) -> CRow
     let location = plan_pair::row_location(site, house, chute);
     let from = location.source;
     let source = source_number(from);
+    let which = location.malformed;
+    let malformed = source_number(which);
     CRow {
         start: location.start,
         length: location.length,
+        place: location.place,
         source,
+        malformed,
         number: location.number,
     }
 }
@@ -45,6 +51,7 @@ pub fn row(site: &[u8], house: &[u8], chute: u64) -> CRow
 #[repr(C)]
 pub struct CWalk {
     pub next: usize,
+    pub place: usize,
     pub destination: u32,
     pub number: u8,
 }
@@ -55,6 +62,7 @@ pub fn step(plan: &[u8], cursor: Cursor) -> CWalk
     let answer = plan_walk::step_at(plan, cursor);
     CWalk {
         next: answer.next.at,
+        place: answer.place,
         destination: answer.destination,
         number: answer.number,
     }

@@ -7,6 +7,7 @@ ghost use Rattle.hall_write.specs.Write.{WritesHalls};
 use hall::HallSummary;
 use plan::Lookup;
 use plan_length::PlanLength;
+use plan_length::PlanWritten;
 
 #[no_mangle]
 pub extern "C" fn hf_hall_read(plan: &[u8]) -> HallSummary
@@ -41,7 +42,12 @@ pub extern "C" fn hf_hall_length(outer: u64, kinds: &[u8], values: &[u32]) -> Pl
 }
 
 #[no_mangle]
-pub extern "C" fn hf_hall_write(outer: u64, kinds: &[u8], values: &[u32], out: &mut [u8]) -> u8
+pub extern "C" fn hf_hall_write(
+    outer: u64,
+    kinds: &[u8],
+    values: &[u32],
+    out: &mut [u8],
+) -> PlanWritten
     ensures { λ r. ⌜ WritesHalls outer (now (kinds .entry)) (now (values .entry)) (now (out .entry)) (now (out .exit)) r ⌝ }
 {
     hall_write::write_halls(outer, kinds, values, out)

@@ -12,6 +12,7 @@ use c_plan::CWalk;
 use plan::Lookup;
 use plan::PlanSummary;
 use plan_length::PlanLength;
+use plan_length::PlanWritten;
 use plan_walk::Cursor;
 
 #[no_mangle]
@@ -43,7 +44,7 @@ pub extern "C" fn hf_plan_length(rows: &[u32]) -> PlanLength
 }
 
 #[no_mangle]
-pub extern "C" fn hf_plan_write(rows: &[u32], out: &mut [u8]) -> u8
+pub extern "C" fn hf_plan_write(rows: &[u32], out: &mut [u8]) -> PlanWritten
     ensures { λ r. ⌜ WritesPlan (now (rows .entry)) (now (out .entry)) (now (out .exit)) r ⌝ }
 {
     plan_write::write_plan(rows, out)

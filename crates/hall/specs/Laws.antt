@@ -7,8 +7,9 @@ use lib.Dec.{leb}
 use lib.ListN.{length}
 use borrow.Author.Tests.{le-leb, leb-true, leb-false, lt-ltb, le-ltb}
 use native.Mathlib.Omega.{arith}
-use Rattle.answers.specs.Numbers.{done, noSuchChute}
-use Rattle.plan.specs.Answers.{hasChute, noDestination, lookupIn}
+use Rattle.answers.specs.Numbers.{noSuchChute}
+use Rattle.answers.specs.Breaches.{noPlace}
+use Rattle.plan.specs.Answers.{hasChute, foundDestination, noDestination, lookupIn}
 use Rattle.plan.specs.declared.Lookup.{Lookup}
 use Rattle.hall_entry.specs.Entries.{destinations}
 use Rattle.hall_read.specs.Halls.{HallPlan, halls, refused, hallsOf}
@@ -22,20 +23,20 @@ use Rattle.hall.specs.declared.HallSummary.{HallSummary}
 -- the answers, by the cases of what reading whole finds
 abbrev pub summaryAnswer : HallRead → HallSummary
 summaryAnswer (Halls outer entries chutes found) = acceptedSummary outer entries chutes
-summaryAnswer (Refused n place) = refusedSummary n
+summaryAnswer (Refused n place) = refusedSummary n place
 
 abbrev pub lookupAnswer : ℕ → HallRead → Lookup
-lookupAnswer chute (Halls outer entries chutes found) = cond (hasChute chutes chute) (record { number = done; destination = found }) (noDestination noSuchChute)
-lookupAnswer chute (Refused n place) = noDestination n
+lookupAnswer chute (Halls outer entries chutes found) = cond (hasChute chutes chute) (foundDestination found) (noDestination noSuchChute noPlace)
+lookupAnswer chute (Refused n place) = noDestination n place
 
 -- the chute that one pass keeps is the flat list's
 kept-is : (l : List ℕ) (chute : ℕ)
-    → cond (hasChute (length l) chute) (record { number = done; destination = chuteAt chute l }) (noDestination noSuchChute) ≡ lookupIn l chute
+    → cond (hasChute (length l) chute) (foundDestination (chuteAt chute l)) (noDestination noSuchChute noPlace) ≡ lookupIn l chute
 kept-is l zero = refl
 kept-is l (suc c) = let one : 1 ≤ suc c = omega arith in rw (le-leb 1 (suc c) one) (go (leb (suc c) (length l)) refl)
   where
     go : (t : Bool) → leb (suc c) (length l) ≡ t
-        → cond t (record { number = done; destination = chuteAt (suc c) l }) (noDestination noSuchChute) ≡ lookupIn l (suc c)
+        → cond t (foundDestination (chuteAt (suc c) l)) (noDestination noSuchChute noPlace) ≡ lookupIn l (suc c)
     go true e = let some : c < length l = omega (arith, leb-true (suc c) (length l) e) in rw (lt-ltb _ _ some)
     go false e = let none : length l ≤ c = omega (arith, leb-false (suc c) (length l) e) in rw (le-ltb _ _ none)
 

@@ -38,10 +38,7 @@ fn summed(plan: &[u8], sum: u64, chute: u64, length: usize) -> u64 {
     let mut i: u64 = (chute >> 32) << 32;
     while i < chute {
         let found = hall::destination(plan, i);
-        all = testing::add_number(
-            testing::add_number(all, found.number as u64),
-            found.destination as u64,
-        );
+        all = show::add_answer(all, found.number, found.destination, found.place);
         i += 1;
     }
     all

@@ -13,15 +13,16 @@ fn write_into(outer: u64, kinds: &[u8], values: &[u32], buffer: &mut [u8], lent:
     if buffer.len() < lent {
         return;
     }
-    let number = hall_write::write_halls(outer, kinds, values, &mut buffer[..lent]);
+    let found = hall_write::write_halls(outer, kinds, values, &mut buffer[..lent]);
     show::answer(
-        number,
+        found.number,
         testing::add_bytes(
             0,
             testing::first(&buffer[..], std::num::wrapping_add_usize(lent, 2)),
         ),
+        found.place,
     );
-    if number == 0 {
+    if found.number == 0 {
         show::field(lists::read(
             0,
             testing::first(&buffer[..], lent),
@@ -49,7 +50,7 @@ fn lent_length(length: usize, k: u32) -> usize {
 // How long the plan of these lists is, and what writing answers for buffers around that length, or around another where they have no plan.
 fn write_each(outer: u64, kinds: &[u8], values: &[u32], otherwise: usize) {
     let needed = hall_length::hall_length(outer, kinds, values);
-    show::answer(needed.number, needed.length as u64);
+    show::answer(needed.number, needed.length as u64, needed.place);
     let length = if needed.number == 0 {
         needed.length
     } else {

@@ -13,6 +13,7 @@ use Rattle.plan_read.specs.Limits.{readsPadded}
 use Rattle.plan_read.specs.Plan.{planNumber}
 use Rattle.hall_entry.specs.Entries.{kindAllowed, Head, first, wrong}
 use Rattle.hall_entry.specs.Bytes.{valued, judged, byteHead}
+use Rattle.hall_entry.specs.Laws.Heads.{kind-place}
 use Rattle.hall_entry.specs.Answers.{headAnswer, entryValues, headValues, ReadsEntry}
 use Rattle.hall_entry.specs.declared.EntryRead.{EntryRead}
 use Rattle.hall_entry.specs.declared.EntryRead.the-variants.{Found, NotEntry}
@@ -45,7 +46,7 @@ module _ (s : List ℕ) (levels chutes at : ℕ) where
   answer-cond false h = refl
 
   kind-judged : (p : Parsed) → Rest at s p → kindAnswer (numberAnswer p) ≡ headAnswer (judged levels chutes at p)
-  kind-judged (value k next rest) r = rw (r .1) (answer-cond (kindAllowed levels chutes k) (valued k (planNumber next (drop next s))))
+  kind-judged (value k next rest) r = rw (r .1, kind-place at k) (answer-cond (kindAllowed levels chutes k) (valued k (planNumber next (drop next s))))
   kind-judged (bad place) r = refl
 
   kind-answer : kindAnswer (numberAnswer (planNumber at (drop at s))) ≡ headAnswer (byteHead levels chutes at (drop at s))

@@ -2,6 +2,7 @@
 use Prim.Native.Nat.{ℕ}
 use mathlib.Core.Path.{_≡_}
 use Rattle.answers.specs.Numbers.{done, malformedPlan}
+use Rattle.answers.specs.Breaches.{noPlace}
 use Rattle.hall_entry.specs.Entries.{Head, first, wrong}
 use Rattle.hall_entry.specs.declared.EntryRead.{EntryRead}
 use Rattle.hall_entry.specs.declared.EntryRead.the-variants.{Found, NotEntry}
@@ -20,11 +21,11 @@ pub record EntryValues : Type 0 where
   pub place : ℕ
 
 abbrev pub entryValues : EntryRead → EntryValues
-entryValues (Found k v next) = record { number = done; kind = k; value = v; next = next; place = 0 }
+entryValues (Found k v next) = record { number = done; kind = k; value = v; next = next; place = noPlace }
 entryValues (NotEntry place) = record { number = malformedPlan; kind = 0; value = 0; next = 0; place = place }
 
 abbrev pub headValues : {A : Type 0} → Head A → EntryValues
-headValues (first k v next rest) = record { number = done; kind = k; value = v; next = next; place = 0 }
+headValues (first k v next rest) = record { number = done; kind = k; value = v; next = next; place = noPlace }
 headValues (wrong place) = record { number = malformedPlan; kind = 0; value = 0; next = 0; place = place }
 
 -- r answers what stands first

@@ -44,7 +44,7 @@ fn entry_of_kind(plan: &[u8], kind: u8, at: usize) -> EntryRead
 {
     match leb128::number_at(plan, at, plan_read::READS_PADDED) {
         Number::Value { value, next } => EntryRead::Found { kind, value, next },
-        Number::Bad(place) => EntryRead::NotEntry(place),
+        Number::Bad(place) => EntryRead::NotEntry(place), // the value cannot be read
     }
 }
 
@@ -59,7 +59,7 @@ pub fn head_at(plan: &[u8], levels: u32, chutes: u32, at: usize) -> EntryRead
             }
             EntryRead::NotEntry(at) // the kind may not stand here
         }
-        Number::Bad(place) => EntryRead::NotEntry(place),
+        Number::Bad(place) => EntryRead::NotEntry(place), // the kind cannot be read
     }
 }
 
@@ -75,6 +75,6 @@ pub fn entry_at(plan: &[u8], at: usize) -> EntryRead
             }
             EntryRead::NotEntry(at) // there is no such kind
         }
-        Number::Bad(place) => EntryRead::NotEntry(place),
+        Number::Bad(place) => EntryRead::NotEntry(place), // no kind can be read
     }
 }

@@ -7,13 +7,13 @@ use lib.Dec.{ltb}
 use lib.ListN.{length}
 use Rattle.answers.specs.Numbers.{inputTooLong}
 use Rattle.plan_read.specs.Limits.{maxPlan}
-use Rattle.plan_length.specs.Length.{lengthIs, noLength}
+use Rattle.plan_length.specs.Length.{lengthIs, refusedLength, noLength}
 use Rattle.plan_length.specs.declared.PlanLength.{PlanLength}
 use Rattle.hall_check.specs.Lists.{pairs, listsAllowed}
 use Rattle.hall_length.specs.Written.{writtenHalls}
 
 abbrev pub tooLong : PlanLength
-tooLong = record { number = inputTooLong; length = 0 }
+tooLong = refusedLength inputTooLong
 
 -- a length of n bytes, where a plan may have as many
 abbrev pub lengthWithin : ℕ → PlanLength

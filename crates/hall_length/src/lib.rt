@@ -29,6 +29,7 @@ fn entries_length(kinds: &[u8], values: &[u32], first: usize) -> PlanLength
             return PlanLength {
                 number: answers::INPUT_TOO_LONG,
                 length: 0,
+                place: answers::NO_PLACE,
             };
         }
         i += 1;
@@ -36,6 +37,7 @@ fn entries_length(kinds: &[u8], values: &[u32], first: usize) -> PlanLength
     PlanLength {
         number: answers::DONE,
         length,
+        place: answers::NO_PLACE, // no plan is read
     }
 }
 
@@ -50,5 +52,6 @@ pub fn hall_length(outer: u64, kinds: &[u8], values: &[u32]) -> PlanLength
     PlanLength {
         number: answers::MALFORMED_PLAN,
         length: 0,
+        place: answers::NO_PLACE,
     }
 }

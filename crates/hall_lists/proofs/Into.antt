@@ -7,6 +7,7 @@ use native.Mathlib.Omega.{arith}
 use lib.ListN.{length, drop, length-map}
 use borrow.Author.Tests.{eq-eqb, ne-eqb}
 use Rattle.answers.specs.Numbers.{done, malformedPlan}
+use Rattle.answers.specs.Breaches.{noPlace}
 use Rattle.stores.specs.Laws.{sets-all}
 use Rattle.plan_read.specs.Plan.{planNumber}
 use Rattle.hall_entry.specs.Entries.{Entry, kindsOf, valuesOf}
@@ -49,14 +50,15 @@ module _ (s kinds values : List ℕ) (r : HallSummary) (e : r ≡ hallSummaryOf 
       go (refused m place) q n f a = absurd (omega (arith, ap (λ (x : HallSummary). x .number) a))
 
   module _ (w : AcceptedPlan s r) where
-    into-other : listsFit (length (w .l)) (length kinds) (length values) ≡ false → FillsLists s kinds values kinds values (refusedSummary malformedPlan)
+    into-other : listsFit (length (w .l)) (length kinds) (length values) ≡ false → FillsLists s kinds values kinds values (refusedSummary malformedPlan noPlace)
     unfolding listsSummary listsKinds listsValues
     into-other f = record { answer = rw (w .is, f); kinds-held = rw (w .is, f); values-held = rw (w .is, f) }
 
-    pub into-kinds : (length kinds ≡ r .entries → ⊥) → FillsLists s kinds values kinds values (refusedSummary malformedPlan)
+    pub into-kinds : (length kinds ≡ r .entries → ⊥) → FillsLists s kinds values kinds values (refusedSummary malformedPlan noPlace)
     into-kinds n = into-other (let d : length kinds ≡ length (w .l) → ⊥ = λ q. n (q ∙ sym (w .entries)) in rw (ne-eqb _ _ d))
 
-    pub into-values : length kinds ≡ r .entries → (length values ≡ r .entries → ⊥) → FillsLists s kinds values kinds values (refusedSummary malformedPlan)
+    pub into-values : length kinds ≡ r .entries → (length values ≡ r .entries → ⊥)
+        → FillsLists s kinds values kinds values (refusedSummary malformedPlan noPlace)
     into-values m n =
         into-other
         (let d : length values ≡ length (w .l) → ⊥ = λ q. n (q ∙ sym (w .entries)) in

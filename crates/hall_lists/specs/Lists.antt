@@ -1,5 +1,5 @@
--- Reading a hall plan into two lent lists (docs/RULES.md, 'Hall plan'): both have exactly as many elements as the plan has entries, else 9; and on a refusal
--- they hold what they held.
+-- Reading a hall plan into two lent lists (docs/RULES.md, 'Hall plan'): both have exactly as many elements as the plan has entries, else 9, with no place;
+-- and on a refusal they hold what they held.
 use Prim.Native.Nat.{ℕ}
 use mathlib.Core.Path.{_≡_}
 use mathlib.Core.List.{List}
@@ -7,6 +7,7 @@ use mathlib.Core.Bool.{Bool, cond, _&&_}
 use lib.Dec.{eqb}
 use lib.ListN.{length}
 use Rattle.answers.specs.Numbers.{malformedPlan}
+use Rattle.answers.specs.Breaches.{noPlace}
 use Rattle.hall_entry.specs.Entries.{kindsOf, valuesOf}
 use Rattle.hall_read.specs.Halls.{HallPlan, halls, refused, hallsOf}
 use Rattle.hall.specs.Answers.{refusedSummary, hallSummary}
@@ -18,8 +19,8 @@ listsFit entries n m = eqb n entries && eqb m entries
 
 -- the answer
 abbrev pub listsAnswer : ℕ → ℕ → HallPlan → HallSummary
-listsAnswer n m (halls outer l) = cond (listsFit (length l) n m) (hallSummary (halls outer l)) (refusedSummary malformedPlan)
-listsAnswer n m (refused r place) = refusedSummary r
+listsAnswer n m (halls outer l) = cond (listsFit (length l) n m) (hallSummary (halls outer l)) (refusedSummary malformedPlan noPlace)
+listsAnswer n m (refused r place) = refusedSummary r place
 
 unfoldable pub listsSummary : List ℕ → ℕ → ℕ → HallSummary
 listsSummary s n m = listsAnswer n m (hallsOf s)

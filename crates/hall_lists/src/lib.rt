@@ -30,10 +30,10 @@ pub fn read_into(plan: &[u8], kinds: &mut [u8], values: &mut [u32]) -> HallSumma
     }
     let entries = summary.entries;
     if kinds.len() != entries {
-        return hall::refused_summary(answers::MALFORMED_PLAN);
+        return hall::refused_summary(answers::MALFORMED_PLAN, answers::NO_PLACE); // not the plan, but the kinds
     }
     if values.len() != entries {
-        return hall::refused_summary(answers::MALFORMED_PLAN);
+        return hall::refused_summary(answers::MALFORMED_PLAN, answers::NO_PLACE); // not the plan, but the values
     }
     fill::fill_lists(plan, entries_start(plan), kinds, values);
     summary

@@ -5,6 +5,7 @@ use mathlib.Core.Bool.{cond}
 use lib.Dec.{ltb}
 use lib.ListN.{length}
 use Rattle.answers.specs.Numbers.{done, malformedPlan}
+use Rattle.answers.specs.Breaches.{noPlace}
 use Rattle.hall_entry.specs.Entries.{destinations}
 use Rattle.hall_read.specs.Halls.{HallPlan, halls, refused}
 use Rattle.hall_read.specs.Passing.{chuteAt}
@@ -36,12 +37,12 @@ abbrev pub refusedValues : ℕ → ℕ → HallValues
 refusedValues n place = record { number = n; outer = 0; entries = 0; chutes = 0; found = 0; place = place }
 
 abbrev pub hallValues : HallRead → HallValues
-hallValues (Halls outer entries chutes found) = record { number = done; outer = outer; entries = entries; chutes = chutes; found = found; place = 0 }
+hallValues (Halls outer entries chutes found) = record { number = done; outer = outer; entries = entries; chutes = chutes; found = found; place = noPlace }
 hallValues (Refused n place) = refusedValues n place
 
 abbrev pub parsedHalls : ℕ → HallPlan → HallValues
 parsedHalls chute (halls outer l) =
-    record { number = done; outer = outer; entries = length l; chutes = length (destinations l); found = chuteAt chute (destinations l); place = 0 }
+    record { number = done; outer = outer; entries = length l; chutes = length (destinations l); found = chuteAt chute (destinations l); place = noPlace }
 parsedHalls chute (refused n place) = refusedValues n place
 
 -- r answers what a hall plan is, with the destination of a chute

@@ -6,6 +6,7 @@ use mathlib.Core.Bool.{cond}
 use lib.Dec.{ltb}
 use lib.ListN.{length}
 use Rattle.answers.specs.Numbers.{inputTooLong, malformedPlan}
+use Rattle.answers.specs.Breaches.{bytesAfter, placeOf, noPlace}
 use Rattle.leb128.specs.Number.{Parsed, value, bad}
 use Rattle.plan_read.specs.Limits.{maxPlan}
 use Rattle.plan_read.specs.Plan.{planNumber}
@@ -25,7 +26,7 @@ malformedHalls place = refused malformedPlan place
 -- nothing stands after the last entry
 abbrev pub nothingAfter : ℕ → Read ℕ → HallPlan
 nothingAfter outer (reached l next []) = halls outer l
-nothingAfter outer (reached l next (b ∷ rest)) = malformedHalls next
+nothingAfter outer (reached l next (b ∷ rest)) = malformedHalls (placeOf (bytesAfter next))
 nothingAfter outer (breach place) = malformedHalls place
 
 -- the entries of the outermost hall, after their number
@@ -34,4 +35,4 @@ withOuter (value n next rest) = nothingAfter n (entriesOf byteHead levelsBelow n
 withOuter (bad place) = malformedHalls place
 
 unfoldable pub hallsOf : List ℕ → HallPlan
-hallsOf s = cond (ltb maxPlan (length s)) (refused inputTooLong 0) (withOuter (planNumber 0 s))
+hallsOf s = cond (ltb maxPlan (length s)) (refused inputTooLong noPlace) (withOuter (planNumber 0 s))

@@ -54,7 +54,7 @@ fn end_reading(length: usize, outer: u32, pass: Pass) -> HallRead
     match pass {
         Pass::Reached(p) => {
             if p.at < length {
-                return malformed(p.at);
+                return malformed(p.at); // the first byte after the last entry
             }
             HallRead::Halls {
                 outer,
@@ -74,7 +74,7 @@ pub fn read_whole(plan: &[u8], chute: u64) -> HallRead
     if plan_read::MAX_PLAN < plan.len() {
         return HallRead::Refused {
             number: answers::INPUT_TOO_LONG,
-            place: 0,
+            place: answers::NO_PLACE,
         };
     }
     match leb128::number_at(plan, 0, plan_read::READS_PADDED) {

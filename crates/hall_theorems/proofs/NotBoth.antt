@@ -7,6 +7,7 @@ use native.Mathlib.Omega.{arith}
 use lib.ListN.{length}
 use lib.Dec.{ltb, leb}
 use Rattle.answers.specs.Numbers.{done, inputTooLong}
+use Rattle.answers.specs.Breaches.{placeOf}
 use Rattle.leb128.specs.Number.{Parsed, value, bad, groups}
 use Rattle.plan_read.specs.Limits.{maxPlan, maxRows}
 use Rattle.plan_read.specs.Plan.{Plan, rows, refused, planNumber, row, malformed, consRow, afterNumber, rowsFrom, planOf, planAnswer}
@@ -15,7 +16,7 @@ use Rattle.plan_read.specs.declared.Row.{Row}
 use Rattle.plan.specs.Answers.{summary, summaryOf}
 use Rattle.hall_entry.specs.Limits.{levelsBelow}
 use Rattle.hall_entry.specs.Entries.{Entry, entry, chuteKind, kindAllowed, destinations, first, wrong, Read, reached, breach, entriesOf}
-use Rattle.hall_entry.specs.Bytes.{valued, judged, byteHead}
+use Rattle.hall_entry.specs.Bytes.{valued, kindBreach, judged, byteHead}
 use Rattle.hall_entry.specs.Laws.Induction.{AllGood, WithNone, WithChute, WithHall, reads-good}
 use Rattle.hall_read.specs.Halls.{HallPlan, halls, refused as refusedHalls, nothingAfter, withOuter, hallsOf}
 use Rattle.hall_read.specs.Laws.Refusals.{Numbered as NumberedHalls, plan-numbered as halls-numbered}
@@ -85,7 +86,8 @@ head-skipped levels chutes at s k v mid t e = go (planNumber at s) e
         rw (n, r)
     of-value j (bad place) q = let z : _≡_ {A = ℕ} 0 1 = cc in absurd (omega arith)
 
-    pick : (j n : ℕ) (u : List ℕ) (b : Bool) → cond b (valued j (planNumber n u)) (wrong at) ≡ first k v mid t → skip (suc zero) n u ≡ value 0 mid t
+    pick : (j n : ℕ) (u : List ℕ) (b : Bool) → cond b (valued j (planNumber n u)) (wrong (placeOf (kindBreach at j))) ≡ first k v mid t
+        → skip (suc zero) n u ≡ value 0 mid t
     pick j n u true q = of-value j (planNumber n u) q
     pick j n u false q = let z : _≡_ {A = ℕ} 0 1 = cc in absurd (omega arith)
 

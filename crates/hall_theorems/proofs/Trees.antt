@@ -8,13 +8,14 @@ use native.Mathlib.Omega.{arith}
 use lib.ListN.{length, length-append}
 use lib.Dec.{ltb}
 use borrow.Author.Tests.{ltb-true}
+use Rattle.answers.specs.Breaches.{placeOf}
 use Rattle.leb128.specs.Number.{Parsed, value, bad, maxNumber}
 use Rattle.leb128.specs.Laws.Reading.{Used, groups-used, limit-three}
 use Rattle.plan_read.specs.Limits.{readsPadded}
 use Rattle.plan_read.specs.Plan.{planNumber}
 use Rattle.hall_entry.specs.Limits.{maxChutes, maxLevels, levelsBelow}
 use Rattle.hall_entry.specs.Entries.{Entry, entry, chuteKind, hallKind, destinations, kindAllowed, Head, first, wrong, entriesOf}
-use Rattle.hall_entry.specs.Bytes.{valued, judged, byteHead}
+use Rattle.hall_entry.specs.Bytes.{valued, kindBreach, judged, byteHead}
 use Rattle.hall_entry.specs.Laws.Heads.{Kind, kind-known}
 use Rattle.hall_entry.specs.Laws.Induction.{AllGood, reads-good, chute-destinations, hall-destinations}
 use Rattle.hall_read.specs.Laws.Kept.{destinations-append}
@@ -37,8 +38,8 @@ pub first-known : (levels chutes at : ℕ) (s : List ℕ) (k v next : ℕ) (rest
 unfolding byteHead
 first-known levels chutes at s k v next rest e = go (planNumber at s) e
   where
-    pick : (j mid : ℕ) (t : List ℕ) (b : Bool) → kindAllowed levels chutes j ≡ b → cond b (valued j (planNumber mid t)) (wrong at) ≡ first k v next rest
-        → Kind levels chutes k × (v ≤ maxNumber)
+    pick : (j mid : ℕ) (t : List ℕ) (b : Bool) → kindAllowed levels chutes j ≡ b
+        → cond b (valued j (planNumber mid t)) (wrong (placeOf (kindBreach at j))) ≡ first k v next rest → Kind levels chutes k × (v ≤ maxNumber)
     pick j mid t true h q = of-value (planNumber mid t) refl q
       where
         of-value : (p : Parsed) → planNumber mid t ≡ p → valued j p ≡ first k v next rest → Kind levels chutes k × (v ≤ maxNumber)

@@ -8,7 +8,7 @@ use Rattle.plan.specs.Answers.{summaryOf, lookupOf, lookupIn}
 use Rattle.plan_length.specs.Length.{lengthOf}
 use Rattle.plan_write.specs.Write.{writeRefusal, writtenOf}
 use Rattle.hall_entry.specs.Entries.{kindsOf, valuesOf}
-use Rattle.hall.specs.Answers.{hallSummaryOf, hallLookupOf}
+use Rattle.hall.specs.Answers.{acceptedSummary, hallSummaryOf, hallLookupOf}
 use Rattle.hall.specs.declared.HallSummary.{HallSummary}
 use Rattle.hall_lists.specs.Lists.{listsSummary, listsKinds, listsValues}
 use Rattle.hall_length.specs.Written.{writtenHalls}
@@ -17,7 +17,7 @@ use Rattle.hall_write.specs.Write.{hallWriteRefusal, hallWrittenOf}
 use Rattle.hall_theorems.specs.Tree.{Hall, count, listed, destinationsOf, HallLimits}
 
 abbrev pub summaryOfHall : Hall → HallSummary
-summaryOfHall h = record { number = done; outer = count h; entries = length (listed h); chutes = length (destinationsOf h) }
+summaryOfHall h = acceptedSummary (count h) (length (listed h)) (length (destinationsOf h))
 
 -- the bytes s are the hall h: every question on s is answered as h has it
 pub record IsHall (h : Hall) (s : List ℕ) : Type 0 where

@@ -11,7 +11,7 @@ use borrow.Author.Tests.{lt-ltb, le-ltb, ltb-true, ltb-false, eq-eqb, ne-eqb}
 use Rattle.answers.specs.Numbers.{done, inputTooLong, malformedPlan}
 use Rattle.leb128_write.specs.Written.{writtenNumber}
 use Rattle.plan_read.specs.Limits.{maxPlan}
-use Rattle.plan_length.specs.Length.{lengthIs, noLength}
+use Rattle.plan_length.specs.Length.{lengthIs, noLength, writeAnswer}
 use Rattle.plan_length.specs.declared.PlanLength.{PlanLength}
 use Rattle.hall_check.specs.Lists.{pairs, listsAllowed}
 use Rattle.hall_length.specs.Written.{writtenEntries, writtenHalls}
@@ -23,13 +23,14 @@ module _ (outer : ℕ) (kinds values : List ℕ) where
   abbrev pub Text : List ℕ
   Text = writtenHalls outer (pairs kinds values)
 
-  pub long-buffer : (out : List ℕ) → maxPlan < length out → WritesHalls outer kinds values out out inputTooLong
+  pub long-buffer : (out : List ℕ) → maxPlan < length out → WritesHalls outer kinds values out out (writeAnswer inputTooLong)
   unfolding hallWriteRefusal hallWrittenOf
-  long-buffer out h = record { number = rw (lt-ltb _ _ h); buffer = rw (lt-ltb _ _ h) }
+  long-buffer out h = record { answer = rw (lt-ltb _ _ h); buffer = rw (lt-ltb _ _ h) }
 
-  not-filled : (out : List ℕ) → length out ≤ maxPlan → hallsFill outer kinds values (length out) ≡ false → WritesHalls outer kinds values out out malformedPlan
+  not-filled : (out : List ℕ) → length out ≤ maxPlan → hallsFill outer kinds values (length out) ≡ false
+      → WritesHalls outer kinds values out out (writeAnswer malformedPlan)
   unfolding hallWriteRefusal hallWrittenOf
-  not-filled out h f = record { number = rw (le-ltb _ _ h, f); buffer = rw (le-ltb _ _ h, f) }
+  not-filled out h f = record { answer = rw (le-ltb _ _ h, f); buffer = rw (le-ltb _ _ h, f) }
 
   -- what a length says that was answered
   pub record Asked (n : ℕ) : Type 0 where
@@ -51,7 +52,7 @@ module _ (outer : ℕ) (kinds values : List ℕ) where
         go false b ea eb q = absurd (omega (arith, ap (λ (x : PlanLength). x .number) q))
 
     -- lists that break the rules, or whose plan is longer than a buffer may be
-    pub refused : (out : List ℕ) → length out ≤ maxPlan → (p .number ≡ done → ⊥) → WritesHalls outer kinds values out out malformedPlan
+    pub refused : (out : List ℕ) → length out ≤ maxPlan → (p .number ≡ done → ⊥) → WritesHalls outer kinds values out out (writeAnswer malformedPlan)
     unfolding hallLengthOf hallsFill
     refused out short n =
         not-filled out short (go (listsAllowed outer kinds values) (ltb maxPlan (length Text)) refl (λ q. n (ap (λ (x : PlanLength). x .number) e ∙ q)))
@@ -68,7 +69,7 @@ module _ (outer : ℕ) (kinds values : List ℕ) where
     unfolding hallWriteRefusal hallsFill
     filled = let m : length Text ≡ n = sym (a .is) in rw (le-ltb _ _ (a .within), a .ok, eq-eqb _ _ m)
 
-    pub other-length : (out : List ℕ) → length out ≤ maxPlan → (n ≡ length out → ⊥) → WritesHalls outer kinds values out out malformedPlan
+    pub other-length : (out : List ℕ) → length out ≤ maxPlan → (n ≡ length out → ⊥) → WritesHalls outer kinds values out out (writeAnswer malformedPlan)
     unfolding hallsFill
     other-length out short o =
         let d : length Text ≡ length out → ⊥ = λ q. o (a .is ∙ q) in
@@ -76,7 +77,7 @@ module _ (outer : ℕ) (kinds values : List ℕ) where
 
     -- both runs of stores together are the hall plan
     pub all-written : (out one two : List ℕ) → n ≡ length out → one ≡ sets out 0 (writtenNumber outer)
-        → two ≡ sets one (length (writtenNumber outer)) (writtenEntries (pairs kinds values)) → WritesHalls outer kinds values out two done
+        → two ≡ sets one (length (writtenNumber outer)) (writtenEntries (pairs kinds values)) → WritesHalls outer kinds values out two (writeAnswer done)
     unfolding hallWrittenOf hallsFill writtenHalls
     all-written out one two m eo et =
         let same : length Text ≡ length out = sym (a .is) ∙ m in
@@ -84,6 +85,6 @@ module _ (outer : ℕ) (kinds values : List ℕ) where
         let k : 0 + length (writtenNumber outer) ≡ length (writtenNumber outer) = omega arith in
         let whole : sets out 0 Text ≡ two = sets-append out 0 (writtenNumber outer) (writtenEntries (pairs kinds values)) ∙ rw (k, ← eo, ← et) in
         record {
-          number = sym (rw m at filled);
+          answer = ap writeAnswer (sym (rw m at filled));
           buffer = rw (le-ltb _ _ short, a .ok, eq-eqb _ _ same) (sym whole ∙ sets-all out Text same);
         }

@@ -8,6 +8,8 @@ use lib.Dec.{ltb, eqb}
 use lib.ListN.{length}
 use Rattle.answers.specs.Numbers.{done, inputTooLong, malformedPlan}
 use Rattle.plan_read.specs.Limits.{maxPlan}
+use Rattle.plan_length.specs.Length.{writeAnswer}
+use Rattle.plan_length.specs.declared.PlanWritten.{PlanWritten}
 use Rattle.hall_check.specs.Lists.{pairs, listsAllowed}
 use Rattle.hall_length.specs.Written.{writtenHalls}
 
@@ -24,6 +26,6 @@ hallWrittenOf outer kinds values out =
     cond (ltb maxPlan (length out)) out (cond (hallsFill outer kinds values (length out)) (writtenHalls outer (pairs kinds values)) out)
 
 -- writing them into a lent buffer answers r, and leaves `after` in it
-pub record WritesHalls (outer : ℕ) (kinds values out after : List ℕ) (r : ℕ) : Type 0 where
-  pub number : r ≡ hallWriteRefusal outer kinds values (length out)
+pub record WritesHalls (outer : ℕ) (kinds values out after : List ℕ) (r : PlanWritten) : Type 0 where
+  pub answer : r ≡ writeAnswer (hallWriteRefusal outer kinds values (length out))
   pub buffer : after ≡ hallWrittenOf outer kinds values out

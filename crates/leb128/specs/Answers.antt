@@ -2,6 +2,7 @@
 use Prim.Native.Nat.{ℕ}
 use mathlib.Core.Path.{_≡_}
 use Rattle.answers.specs.Numbers.{done, malformedPlan}
+use Rattle.answers.specs.Breaches.{noPlace}
 use Rattle.leb128.specs.Number.{Parsed, value, bad}
 use Rattle.leb128.specs.declared.Number.{Number}
 use Rattle.leb128.specs.declared.Number.the-variants.{Value, Bad}
@@ -19,11 +20,11 @@ pub record NumberValues : Type 0 where
   pub place : ℕ
 
 abbrev pub numberValues : Number → NumberValues
-numberValues (Value v next) = record { number = done; value = v; next = next; place = 0 }
+numberValues (Value v next) = record { number = done; value = v; next = next; place = noPlace }
 numberValues (Bad place) = record { number = malformedPlan; value = 0; next = 0; place = place }
 
 abbrev pub parsedValues : Parsed → NumberValues
-parsedValues (value v next rest) = record { number = done; value = v; next = next; place = 0 }
+parsedValues (value v next rest) = record { number = done; value = v; next = next; place = noPlace }
 parsedValues (bad place) = record { number = malformedPlan; value = 0; next = 0; place = place }
 
 -- r answers what was read

@@ -9,12 +9,13 @@ use lib.ListN.{length, getD}
 use lib.Dec.{leb}
 use borrow.Author.Tests.{le-leb, lt-leb, leb-true}
 use Rattle.answers.specs.Numbers.{done, noSuchChute}
+use Rattle.answers.specs.Breaches.{noPlace}
 use Rattle.plan_read.specs.Plan.{Plan, rows, refused, planOf, planAnswer, noRow}
 use Rattle.plan_read.specs.Places.{RowIn}
 use Rattle.plan_read.specs.Laws.Rows.{RowsIn, plan-in}
 use Rattle.plan_read.specs.Laws.Refusals.{Numbered, plan-numbered}
 use Rattle.plan_read.specs.declared.Row.{Row}
-use Rattle.plan.specs.Answers.{summaryOf, hasChute, rowFound, noChuteRow, chuteRow, chuteRowOf, destinationOf, noDestination, lookupOf}
+use Rattle.plan.specs.Answers.{summaryOf, hasChute, rowFound, noChuteRow, chuteRow, chuteRowOf, destinationOf, foundDestination, noDestination, lookupOf}
 
 module _ (s : List ℕ) (l : List Row) (e : planOf s ≡ rows l) where
   pub chute-row : (c : ℕ) → c < length l → chuteRowOf s (suc c) ≡ rowFound (getD l c noRow)
@@ -24,27 +25,27 @@ module _ (s : List ℕ) (l : List Row) (e : planOf s ≡ rows l) where
       let some : suc c ≤ length l = omega arith in
       rw (e, le-leb 1 (suc c) one, le-leb (suc c) (length l) some)
 
-  pub chute-zero : chuteRowOf s 0 ≡ noChuteRow noSuchChute
+  pub chute-zero : chuteRowOf s 0 ≡ noChuteRow noSuchChute noPlace
   unfolding chuteRowOf
   chute-zero = rw e
 
-  pub chute-past : (c : ℕ) → length l < c → chuteRowOf s c ≡ noChuteRow noSuchChute
+  pub chute-past : (c : ℕ) → length l < c → chuteRowOf s c ≡ noChuteRow noSuchChute noPlace
   unfolding chuteRowOf
   chute-past c h = let one : 1 ≤ c = omega arith in rw (e, le-leb 1 c one, lt-leb _ _ h)
 
-  pub lookup-row : (c : ℕ) → c < length l → lookupOf s (suc c) ≡ record { number = done; destination = getD l c noRow .destination }
+  pub lookup-row : (c : ℕ) → c < length l → lookupOf s (suc c) ≡ foundDestination (getD l c noRow .destination)
   unfolding lookupOf
   lookup-row c h = ap destinationOf (chute-row c h)
 
-  pub lookup-zero : lookupOf s 0 ≡ noDestination noSuchChute
+  pub lookup-zero : lookupOf s 0 ≡ noDestination noSuchChute noPlace
   unfolding lookupOf
   lookup-zero = ap destinationOf chute-zero
 
-  pub lookup-past : (c : ℕ) → length l < c → lookupOf s c ≡ noDestination noSuchChute
+  pub lookup-past : (c : ℕ) → length l < c → lookupOf s c ≡ noDestination noSuchChute noPlace
   unfolding lookupOf
   lookup-past c h = ap destinationOf (chute-past c h)
 
-  pub count-rows : summaryOf s ≡ record { number = done; rows = length l }
+  pub count-rows : summaryOf s ≡ record { number = done; rows = length l; place = noPlace }
   unfolding summaryOf
   count-rows = rw e
 
@@ -63,7 +64,7 @@ unfolding chuteRowOf
 found-in s chute z = go chute (planOf s) (plan-in s) (plan-numbered s) z
   where
     pick : (n c : ℕ) (r : Row) (t : Bool) → hasChute n (suc c) ≡ t → ((suc c ≤ n) → RowIn s r)
-        → cond t (rowFound r) (noChuteRow noSuchChute) .number ≡ done → RowIn s (cond t (rowFound r) (noChuteRow noSuchChute) .row)
+        → cond t (rowFound r) (noChuteRow noSuchChute noPlace) .number ≡ done → RowIn s (cond t (rowFound r) (noChuteRow noSuchChute noPlace) .row)
     pick n c r true h i z = i (has-chute n (suc c) h .1)
     pick n c r false h i z = absurd (omega arith)
 

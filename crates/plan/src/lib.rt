@@ -4,9 +4,10 @@ use plan_read::Row;
 ghost use mathlib.Core.Path.{_≡_};
 ghost use Rattle.plan.specs.Answers.{summaryOf, hasChute, noChuteRow, chuteRowOf, lookupOf};
 
-// The answer of reading a plan: 0 and the number of rows, or the refusal's number.
+// The answer of reading a plan: 0 and the number of rows, or the refusal's number and, with 9, the place at which the plan is malformed.
 #[repr(C)]
 pub struct PlanSummary {
+    pub place: usize,
     pub rows: u32,
     pub number: u8,
 }
@@ -18,8 +19,13 @@ pub fn read_plan(plan: &[u8]) -> PlanSummary
         PlanRead::Rows { count, row: _ } => PlanSummary {
             number: answers::DONE,
             rows: count,
+            place: answers::NO_PLACE, // the plan is well-formed
         },
-        PlanRead::Refused { number, place: _ } => PlanSummary { number, rows: 0 },
+        PlanRead::Refused { number, place } => PlanSummary {
+            number,
+            rows: 0,
+            place,
+        },
     }
 }
 
@@ -33,14 +39,15 @@ pub fn has_chute(count: u32, chute: u64) -> bool
     chute <= count as u64
 }
 
-// The row of one chute: 0 and the row, or the refusal's number and a row that is all 0.
+// The row of one chute: 0 and the row, or the refusal's number and, with 9, the place at which the plan is malformed; and a row that is all 0.
 pub struct ChuteRow {
     pub number: u8,
     pub row: Row,
+    pub place: usize,
 }
 
-fn no_row(number: u8) -> ChuteRow
-    ensures { λ r. ⌜ r ≡ noChuteRow number ⌝ }
+fn no_row(number: u8, place: usize) -> ChuteRow
+    ensures { λ r. ⌜ r ≡ noChuteRow number place ⌝ }
 {
     ChuteRow {
         number,
@@ -49,6 +56,7 @@ fn no_row(number: u8) -> ChuteRow
             start: 0,
             end: 0,
         },
+        place,
     }
 }
 
@@ -61,17 +69,19 @@ pub fn row_of(plan: &[u8], chute: u64) -> ChuteRow
                 return ChuteRow {
                     number: answers::DONE,
                     row,
+                    place: answers::NO_PLACE,
                 };
             }
-            no_row(answers::NO_SUCH_CHUTE)
+            no_row(answers::NO_SUCH_CHUTE, answers::NO_PLACE)
         }
-        PlanRead::Refused { number, place: _ } => no_row(number),
+        PlanRead::Refused { number, place } => no_row(number, place),
     }
 }
 
-// The answer for one chute: 0 and the destination, or the refusal's number.
+// The answer for one chute: 0 and the destination, or the refusal's number and, with 9, the place at which the plan is malformed.
 #[repr(C)]
 pub struct Lookup {
+    pub place: usize,
     pub destination: u32,
     pub number: u8,
 }
@@ -83,5 +93,6 @@ pub fn destination(plan: &[u8], chute: u64) -> Lookup
     Lookup {
         destination: found.row.destination,
         number: found.number,
+        place: found.place,
     }
 }

@@ -32,23 +32,25 @@ fn field(n: u64) {
     printing::print(b" ");
 }
 
-// A refusal and a value.
-fn answer(number: u8, value: u64) {
+// A refusal, a value and a place.
+fn answer(number: u8, value: u64, place: usize) {
     printing::print_number(number as u64);
     printing::print(b":");
-    field(value);
+    printing::print_number(value);
+    printing::print(b":");
+    field(place as u64);
 }
 
 fn chute(plan: &[u8], chute: u64) {
     let found = plan::destination(plan, chute);
-    answer(found.number, found.destination as u64);
+    answer(found.number, found.destination as u64, found.place);
 }
 
-// The refusal and the number of rows, then the answers for chute 0, the first, the one that the case names and the next, the row limit, and the numbers
-// around 2^32.
+// The refusal, the number of rows and the place, then the answers for chute 0, the first, the one that the case names and the next, the row limit, and the
+// numbers around 2^32.
 fn line(plan: &[u8], last: u64) {
     let summary = plan::read_plan(plan);
-    answer(summary.number, summary.rows as u64);
+    answer(summary.number, summary.rows as u64, summary.place);
     chute(plan, 0);
     chute(plan, 1);
     chute(plan, last);
@@ -62,18 +64,21 @@ fn far_chutes(plan: &[u8]) {
     chute(plan, 4294967297);
 }
 
-fn added(sum: u64, number: u8, value: u32) -> u64 {
-    testing::add_number(testing::add_number(sum, number as u64), value as u64)
+fn added(sum: u64, number: u8, value: u32, place: usize) -> u64 {
+    testing::add_number(
+        testing::add_number(testing::add_number(sum, number as u64), value as u64),
+        place as u64,
+    )
 }
 
-// A plan's refusal and number of rows, and the answers for its first chutes from 0 on, taken into the checksum.
+// A plan's refusal, number of rows and place, and the answers for its first chutes from 0 on, taken into the checksum.
 fn summed(plan: &[u8], sum: u64, chutes: u64) -> u64 {
     let summary = plan::read_plan(plan);
-    let mut all = added(sum, summary.number, summary.rows);
+    let mut all = added(sum, summary.number, summary.rows, summary.place);
     let mut i: u64 = 0;
     while i < chutes {
         let found = plan::destination(plan, i);
-        all = added(all, found.number, found.destination);
+        all = added(all, found.number, found.destination, found.place);
         i += 1;
     }
     all
@@ -87,11 +92,13 @@ fn source_number(source: Source) -> u64 {
     }
 }
 
-// Where the row of a chute is, and its bytes: returned at once, and cut at their location.
+// Where the row of a chute is, which plan is malformed, and the row's bytes: returned at once, and cut at their location.
 fn row<'a>(site: &'a [u8], house: &'a [u8], chute: u64) {
     let location = plan_pair::row_location(site, house, chute);
     let source = location.source;
-    answer(location.number, source_number(source));
+    let malformed = location.malformed;
+    answer(location.number, source_number(source), location.place);
+    field(source_number(malformed));
     field(location.start as u64);
     field(location.length as u64);
     printing::print_bytes(plan_part::row_bytes(site, house, chute));
@@ -119,7 +126,7 @@ fn fill(rows: &mut [u32], bytes: &[u8]) {
 fn write_each(rows: &[u32]) {
     let needed = plan_length::plan_length(rows);
     let length = needed.length;
-    answer(needed.number, length as u64);
+    answer(needed.number, length as u64, needed.place);
     write(rows, length);
     write(rows, std::num::wrapping_add_usize(length, 1));
     write(rows, if 0 < length { length - 1 } else { 0 });
@@ -135,18 +142,22 @@ fn write_into(rows: &[u32], buffer: &mut [u8], lent: usize) {
     if buffer.len() < lent {
         return;
     }
-    let number = plan_write::write_plan(rows, &mut buffer[..lent]);
-    answer(number, testing::add_bytes(0, &buffer[..]));
+    let found = plan_write::write_plan(rows, &mut buffer[..lent]);
+    answer(
+        found.number,
+        testing::add_bytes(0, &buffer[..]),
+        found.place,
+    );
 }
 
-// Twelve asks of a walk: each refusal and destination, and the place after it.
+// Twelve asks of a walk: where it stands, and each refusal, destination and place.
 fn walked(plan: &[u8]) {
     let mut cursor = plan_walk::start_at(plan);
     let mut asks: u32 = 0;
     while asks < 12 {
         field(cursor.at as u64);
         let step = plan_walk::step_at(plan, cursor);
-        answer(step.number, step.destination as u64);
+        answer(step.number, step.destination as u64, step.place);
         let next = step.next;
         cursor = next;
         asks += 1;

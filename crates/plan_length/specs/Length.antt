@@ -6,9 +6,11 @@ use mathlib.Core.Bool.{Bool, true, cond, _&&_}
 use lib.Dec.{leb}
 use lib.ListN.{length}
 use Rattle.answers.specs.Numbers.{done, malformedPlan}
+use Rattle.answers.specs.Breaches.{noPlace}
 use Rattle.leb128_write.specs.Written.{writtenNumber}
 use Rattle.plan_read.specs.Limits.{maxRows, maxDestination}
 use Rattle.plan_length.specs.declared.PlanLength.{PlanLength}
+use Rattle.plan_length.specs.declared.PlanWritten.{PlanWritten}
 
 unfoldable pub writtenRows : List ℕ → List ℕ
 writtenRows [] = []
@@ -26,12 +28,19 @@ rowsAllowed (v ∷ l) = leb v maxDestination && rowsAllowed l
 unfoldable pub allowed : List ℕ → Bool
 allowed l = leb (length l) maxRows && rowsAllowed l
 
--- the length of a plan: 0 and the length, or 9 and 0
+-- the length of a plan: 0 and the length, or the refusal n and 0; nothing is read, so that there is no place
 abbrev pub lengthIs : ℕ → PlanLength
-lengthIs n = record { number = done; length = n }
+lengthIs n = record { number = done; length = n; place = noPlace }
+
+abbrev pub refusedLength : ℕ → PlanLength
+refusedLength n = record { number = n; length = 0; place = noPlace }
 
 abbrev pub noLength : PlanLength
-noLength = record { number = malformedPlan; length = 0 }
+noLength = refusedLength malformedPlan
 
 unfoldable pub lengthOf : List ℕ → PlanLength
 lengthOf l = cond (allowed l) (lengthIs (length (writtenPlan l))) noLength
+
+-- the answer of writing a plan, flat or of halls, by its number
+abbrev pub writeAnswer : ℕ → PlanWritten
+writeAnswer n = record { number = n; place = noPlace }

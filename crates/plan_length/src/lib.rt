@@ -1,12 +1,29 @@
 // The length of a chute plan (docs/RULES.md, 'Chute plan'): how many bytes the plan of some rows takes, or that the rows break the plan's rules.
 ghost use mathlib.Core.Path.{_≡_};
-ghost use Rattle.plan_length.specs.Length.{noLength, lengthOf};
+ghost use Rattle.plan_length.specs.Length.{noLength, lengthOf, writeAnswer};
 
-// How many bytes a plan takes: 0 and the length, or the refusal's number.
+// How many bytes a plan takes: 0 and the length, or the refusal's number. Nothing is read, so that the place is that of no breach.
 #[repr(C)]
 pub struct PlanLength {
     pub length: usize,
+    pub place: usize,
     pub number: u8,
+}
+
+// The answer of writing a plan, flat or of halls: 0, or the refusal's number; and the place of no breach.
+#[repr(C)]
+pub struct PlanWritten {
+    pub place: usize,
+    pub number: u8,
+}
+
+pub fn write_answer(number: u8) -> PlanWritten
+    ensures { λ r. ⌜ r ≡ writeAnswer number ⌝ }
+{
+    PlanWritten {
+        place: answers::NO_PLACE, // what is written is not read
+        number,
+    }
 }
 
 fn no_length() -> PlanLength
@@ -15,6 +32,7 @@ fn no_length() -> PlanLength
     PlanLength {
         number: answers::MALFORMED_PLAN,
         length: 0,
+        place: answers::NO_PLACE,
     }
 }
 
@@ -38,5 +56,6 @@ pub fn plan_length(rows: &[u32]) -> PlanLength
     PlanLength {
         number: answers::DONE,
         length,
+        place: answers::NO_PLACE, // no plan is read
     }
 }

@@ -10,7 +10,7 @@ use Rattle.answers.specs.Numbers.{done}
 use Rattle.plan.specs.Answers.{chuteRowOf}
 use Rattle.plan.specs.Laws.{found-in}
 use Rattle.plan.specs.declared.ChuteRow.{ChuteRow}
-use Rattle.plan_pair.specs.Pair.{noLocation, planRefusal, smallerOf, plansRefusal, locationFound, location, locationOf}
+use Rattle.plan_pair.specs.Pair.{planRefusal, smallerOf, plansRefusal, locationFound, plansRefused, location, locationOf}
 use Rattle.plan_pair.specs.declared.RowLocation.{RowLocation}
 
 -- a row that was found does not start past its end
@@ -23,7 +23,7 @@ module _ (site house : List ℕ) (chute : ℕ) (s h : ChuteRow) (es : s ≡ chut
     (ea : a ≡ planRefusal (s .number)) (eb : b ≡ planRefusal (h .number)) (ek : k ≡ smallerOf a b) where
   -- by a refusal of the plans
   abbrev chosen : ℕ → RowLocation
-  chosen n = cond (eqb n done) (locationFound s h) (noLocation n)
+  chosen n = cond (eqb n done) (locationFound s h) (plansRefused n s h)
 
   plans : k ≡ plansRefusal s h
   plans = ek ∙ rw (ea, eb)
@@ -32,7 +32,7 @@ module _ (site house : List ℕ) (chute : ℕ) (s h : ChuteRow) (es : s ≡ chut
   unfolding locationOf
   whole = rw (es, eh)
 
-  pub refused-is : (k ≡ done → ⊥) → noLocation k ≡ locationOf site house chute
+  pub refused-is : (k ≡ done → ⊥) → plansRefused k s h ≡ locationOf site house chute
   refused-is z = sym (rw (ne-eqb k done z)) ∙ ap chosen plans ∙ whole
 
   pub found-is : k ≡ done → locationFound s h ≡ locationOf site house chute

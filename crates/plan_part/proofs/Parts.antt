@@ -8,15 +8,27 @@ use native.Mathlib.Omega.{arith}
 use lib.ListN.{length, length-take, length-drop}
 use lib.Dec.{leb, eqb}
 use borrow.Author.Tests.{le-leb, eqb-true, eqb-false}
-use Rattle.answers.specs.Numbers.{done, noSuchChute}
+use Rattle.answers.specs.Numbers.{done, malformedPlan, noSuchChute}
+use Rattle.answers.specs.Breaches.{noPlace}
 use Rattle.plan_read.specs.Places.{RowIn, bytesOf}
 use Rattle.plan_read.specs.declared.Row.{Row}
 use Rattle.plan.specs.Answers.{chuteRowOf}
 use Rattle.plan.specs.Laws.{found-in}
 use Rattle.plan.specs.declared.ChuteRow.{ChuteRow}
-use Rattle.plan_pair.specs.Pair.{noLocation, locationIn, planRefusal, smallerOf, plansRefusal, location, locationOf}
+use Rattle.plan_pair.specs.Pair.{
+  locationIn,
+  refusedLocation,
+  noLocation,
+  malformedIn,
+  planRefusal,
+  smallerOf,
+  plansRefusal,
+  plansRefused,
+  location,
+  locationOf,
+}
 use Rattle.plan_pair.specs.declared.Source.{Source}
-use Rattle.plan_pair.specs.declared.Source.the-variants.{Site, House}
+use Rattle.plan_pair.specs.declared.Source.the-variants.{Neither, Site, House}
 use Rattle.plan_pair.specs.declared.RowLocation.{RowLocation}
 use Rattle.plan_part.specs.Part.{partFrom, partOf, rowBytesOf}
 use Rattle.plan_part.specs.Parts.{PartAt, RowParts}
@@ -58,7 +70,8 @@ module _ (s h : ChuteRow) where
       smaller-one (planRefusal (s .number)) (planRefusal (h .number)) (refusal-plan (s .number) .0) (refusal-plan (h .number) .0)
 
   -- the cases of a location, each a place where a proof goes on
-  by-case : (P : RowLocation → Type 0) → ((plansRefusal s h ≡ done → ⊥) → P (noLocation (plansRefusal s h)))
+  by-case : (P : RowLocation → Type 0)
+      → ((n : ℕ) (malformed : Source) (place : ℕ) → n ≡ plansRefusal s h → (n ≡ done → ⊥) → P (refusedLocation n malformed place))
       → (s .number ≡ done → P (locationIn Site (s .row)))
       → ((s .number ≡ done → ⊥) → h .number ≡ done → P (locationIn House (h .row)))
       → (s .number ≡ noSuchChute → h .number ≡ noSuchChute → P (noLocation noSuchChute))
@@ -67,13 +80,22 @@ module _ (s h : ChuteRow) where
       go (eqb (plansRefusal s h) done) (eqb (s .number) done) (eqb (h .number) done) refl refl refl
     where
       go : (a b c : Bool) → eqb (plansRefusal s h) done ≡ a → eqb (s .number) done ≡ b → eqb (h .number) done ≡ c
-          → P (cond a (cond b (locationIn Site (s .row)) (cond c (locationIn House (h .row)) (noLocation noSuchChute))) (noLocation (plansRefusal s h)))
+          → P (cond a (cond b (locationIn Site (s .row)) (cond c (locationIn House (h .row)) (noLocation noSuchChute))) (plansRefused (plansRefusal s h) s h))
       go true true c ea eb ec = site (eqb-true _ _ eb)
       go true false true ea eb ec = house (eqb-false _ _ eb) (eqb-true _ _ ec)
       go true false false ea eb ec =
           let k = plans-known .1 (eqb-true _ _ ea) in
           none (refusal-plan (s .number) .1 (k .0) (eqb-false _ _ eb)) (refusal-plan (h .number) .1 (k .1) (eqb-false _ _ ec))
-      go false b c ea eb ec = refused (eqb-false _ _ ea)
+      go false b c ea eb ec = named (eqb (plansRefusal s h) malformedPlan) (eqb (s .number) malformedPlan) refl
+        where
+          some : plansRefusal s h ≡ done → ⊥
+          some = eqb-false _ _ ea
+
+          named : (t u : Bool) → eqb (plansRefusal s h) malformedPlan ≡ t
+              → P (cond t (cond u (malformedIn Site (s .place)) (malformedIn House (h .place))) (noLocation (plansRefusal s h)))
+          named true true e = refused _ Site (s .place) (sym (eqb-true _ _ e)) (λ z. omega arith)
+          named true false e = refused _ House (h .place) (sym (eqb-true _ _ e)) (λ z. omega arith)
+          named false u e = refused _ Neither noPlace refl some
 
 module _ (site house : List ℕ) (chute : ℕ) where
   abbrev s : ChuteRow
@@ -82,8 +104,8 @@ module _ (site house : List ℕ) (chute : ℕ) where
   abbrev h : ChuteRow
   h = chuteRowOf house chute
 
-  refused-part : (n : ℕ) → (n ≡ done → ⊥) → PartAt site house (noLocation n)
-  refused-part n z =
+  refused-part : (n : ℕ) (malformed : Source) (place : ℕ) → (n ≡ done → ⊥) → PartAt site house (refusedLocation n malformed place)
+  refused-part n malformed place z =
       record {
         as-long = refl;
         one-to-three = λ e. absurd (z e);
@@ -103,10 +125,10 @@ module _ (site house : List ℕ) (chute : ℕ) where
 
   whole-part : PartAt site house (location s h)
   whole-part =
-      by-case s h (PartAt site house) (λ z. refused-part _ z)
+      by-case s h (PartAt site house) (λ n m place e z. refused-part n m place z)
       (λ e. let i = found-in site chute e in found-part Site site (s .row) i (part-row site (s .row) i))
       (λ z e. let i = found-in house chute e in found-part House house (h .row) i (part-row house (h .row) i))
-      (λ e f. refused-part noSuchChute (λ z. omega arith))
+      (λ e f. refused-part noSuchChute Neither noPlace (λ z. omega arith))
 
   -- whose bytes: by the location's cases
   abbrev Whose : RowLocation → Type 0
@@ -116,7 +138,7 @@ module _ (site house : List ℕ) (chute : ℕ) where
 
   whose : Whose (location s h)
   whose =
-      by-case s h Whose (λ z. ((λ e. absurd (z e)), (λ e. absurd (z e))))
+      by-case s h Whose (λ n m place r z. ((λ e. absurd (z e)), (λ e. absurd (z e))))
       (λ e. ((λ d f. (refl, part-row site (s .row) (found-in site chute e))), (λ d z. absurd (z e))))
       (λ z e. ((λ d f. absurd (z f)), (λ d k. (e, (refl, part-row house (h .row) (found-in house chute e))))))
       (λ e f. ((λ d. absurd (omega arith)), (λ d. absurd (omega arith))))
@@ -127,7 +149,7 @@ module _ (site house : List ℕ) (chute : ℕ) where
       by-case s h
       (λ l. (l .number ≡ noSuchChute → (s .number ≡ noSuchChute) × (h .number ≡ noSuchChute))
       × ((s .number ≡ noSuchChute) × (h .number ≡ noSuchChute) → l .number ≡ noSuchChute))
-      (λ z. ((λ e. absurd (plans-known s h .0 e)), (λ b. absurd (z (rw (b .0, b .1))))))
+      (λ n m place r z. ((λ e. absurd (plans-known s h .0 (sym r ∙ e))), (λ b. absurd (z (r ∙ rw (b .0, b .1))))))
       (λ e. ((λ d. absurd (omega arith)), (λ b. absurd (omega (arith, e, b .0)))))
       (λ z e. ((λ d. absurd (omega arith)), (λ b. absurd (omega (arith, e, b .1)))))
       (λ e f. ((λ d. (e, f)), (λ b. refl)))

@@ -2,6 +2,7 @@
 use Prim.Native.Nat.{ℕ}
 use mathlib.Core.Path.{_≡_}
 use Rattle.answers.specs.Numbers.{done, malformedPlan}
+use Rattle.answers.specs.Breaches.{noPlace}
 use Rattle.leb128.specs.Number.{Parsed, value, bad}
 use lib.ListN.{length}
 use Rattle.plan_read.specs.Plan.{Plan, rows, refused, row, noRow, rowAt, rowAnswer, planAnswer}
@@ -18,11 +19,11 @@ pub record RowValues : Type 0 where
   pub place : ℕ
 
 abbrev pub rowValues : RowRead → RowValues
-rowValues (Found r) = record { number = done; found = r; place = 0 }
+rowValues (Found r) = record { number = done; found = r; place = noPlace }
 rowValues (NotRow place) = record { number = malformedPlan; found = noRow; place = place }
 
 abbrev pub parsedRow : ℕ → Parsed → RowValues
-parsedRow at (value v next rest) = record { number = done; found = row v at next; place = 0 }
+parsedRow at (value v next rest) = record { number = done; found = row v at next; place = noPlace }
 parsedRow at (bad place) = record { number = malformedPlan; found = noRow; place = place }
 
 -- r answers what was read at a place
@@ -38,11 +39,11 @@ pub record PlanValues : Type 0 where
   pub place : ℕ
 
 abbrev pub planValues : PlanRead → PlanValues
-planValues (Rows n r) = record { number = done; count = n; found = r; place = 0 }
+planValues (Rows n r) = record { number = done; count = n; found = r; place = noPlace }
 planValues (Refused n place) = record { number = n; count = 0; found = noRow; place = place }
 
 abbrev pub parsedPlan : ℕ → Plan → PlanValues
-parsedPlan chute (rows l) = record { number = done; count = length l; found = rowAt chute l; place = 0 }
+parsedPlan chute (rows l) = record { number = done; count = length l; found = rowAt chute l; place = noPlace }
 parsedPlan chute (refused n place) = record { number = n; count = 0; found = noRow; place = place }
 
 -- r answers what a plan is, with the row of a chute

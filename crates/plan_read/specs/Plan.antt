@@ -6,6 +6,7 @@ use mathlib.Core.Bool.{cond}
 use lib.Dec.{ltb, leb}
 use lib.ListN.{length, getD}
 use Rattle.answers.specs.Numbers.{inputTooLong, malformedPlan}
+use Rattle.answers.specs.Breaches.{tooManyRows, bytesAfter, placeOf, noPlace}
 use Rattle.leb128.specs.Number.{Parsed, value, bad, number}
 use Rattle.plan_read.specs.Limits.{maxPlan, maxRows, readsPadded}
 use Rattle.plan_read.specs.declared.Row.{Row}
@@ -46,14 +47,14 @@ afterNumber (bad place) go = malformed place
 -- n rows at the place `at`, and then nothing more
 unfoldable pub rowsFrom : ℕ → ℕ → List ℕ → Plan
 rowsFrom zero at [] = rows []
-rowsFrom zero at (b ∷ rest) = malformed at
+rowsFrom zero at (b ∷ rest) = malformed (placeOf (bytesAfter at))
 rowsFrom (suc n) at s = afterNumber (planNumber at s) (λ v next rest. consRow (row v at next) (rowsFrom n next rest))
 
 abbrev pub planIn : List ℕ → Plan
-planIn s = afterNumber (planNumber 0 s) (λ count next rest. cond (leb count maxRows) (rowsFrom count next rest) (malformed 0))
+planIn s = afterNumber (planNumber 0 s) (λ count next rest. cond (leb count maxRows) (rowsFrom count next rest) (malformed (placeOf tooManyRows)))
 
 unfoldable pub planOf : List ℕ → Plan
-planOf s = cond (ltb maxPlan (length s)) (refused inputTooLong 0) (planIn s)
+planOf s = cond (ltb maxPlan (length s)) (refused inputTooLong noPlace) (planIn s)
 
 -- the row of a chute, which count from 1: all 0 where there is none
 abbrev pub noRow : Row

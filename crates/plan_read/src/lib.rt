@@ -44,7 +44,7 @@ pub fn row_at(plan: &[u8], at: usize) -> RowRead
 }
 
 // The place at which reading a row failed, 0 for a row.
-fn place_of(read: RowRead) -> usize
+fn failed_at(read: RowRead) -> usize
     ensures { λ r. ⌜ r ≡ rowValues read .place ⌝ }
 {
     match read {
@@ -100,7 +100,7 @@ fn read_rows(plan: &[u8], first: usize, count: u32, chute: u64) -> PlanRead
     while i < count {
         let read = row_at(plan, at);
         let RowRead::Found(row) = read else {
-            return malformed(place_of(read));
+            return malformed(failed_at(read));
         };
         i += 1;
         if wide(i) == chute {
@@ -109,7 +109,7 @@ fn read_rows(plan: &[u8], first: usize, count: u32, chute: u64) -> PlanRead
         at = row.end;
     }
     if at < plan.len() {
-        return malformed(at);
+        return malformed(at); // the first byte after the last row
     }
     PlanRead::Rows {
         count,
@@ -124,13 +124,13 @@ pub fn read_whole(plan: &[u8], chute: u64) -> PlanRead
     if MAX_PLAN < plan.len() {
         return PlanRead::Refused {
             number: answers::INPUT_TOO_LONG,
-            place: 0,
+            place: answers::NO_PLACE,
         };
     }
     match leb128::number_at(plan, 0, READS_PADDED) {
         Number::Value { value, next } => {
             if MAX_ROWS < value {
-                return malformed(0);
+                return malformed(0); // the place of a plan with too many rows
             }
             read_rows(plan, next, value, chute)
         }

@@ -1,4 +1,4 @@
--- A walk over every number of asks: by the rows that are left at a place, and of a refused plan by its number alone.
+-- A walk over every number of asks: by the rows that are left at a place, and of a refused plan by its number and place alone.
 use mathlib.Core.Path.{_≡_, refl, sym, ap, _∙_}
 use mathlib.Core.List.{List, [], _∷_, map}
 use mathlib.Core.Bool.{Bool, true, false, cond}
@@ -10,6 +10,7 @@ use borrow.Author.Tests.{le-leb, ne-eqb}
 use denote.Ref.{RefT, now}
 use Rattle.answers.specs.Numbers.{done, inputTooLong, noSuchChute}
 use Rattle.answers.specs.Done.{ifDone}
+use Rattle.answers.specs.Breaches.{noPlace}
 use Rattle.leb128.specs.Number.{Parsed, value, bad, groups}
 use Rattle.leb128.specs.Laws.Reading.{Rest, groups-rest}
 use Rattle.plan_read.specs.Limits.{maxPlan, maxRows, readsPadded}
@@ -18,20 +19,20 @@ use Rattle.plan_read.specs.Laws.Refusals.{Numbered, plan-numbered}
 use Rattle.plan.specs.Answers.{summaryOf, summary, rowFound, noChuteRow, chuteRow, chuteRowOf, destinationOf, lookupOf}
 use Rattle.plan_read.specs.declared.Row.{Row}
 use Rattle.plan.specs.declared.Lookup.{Lookup}
-use Rattle.plan_walk.specs.Walk.{placeAfter, firstRowPlace, walkStart, stay, walkStep}
+use Rattle.plan_walk.specs.Walk.{pastNumber, firstRowAt, walkStart, stay, walkStep}
 use Rattle.plan_walker.specs.Walker.{walkerAt, asks, moved}
 use Rattle.plan_walker.specs.Walks.{walkerOf, afterAsks, answerLookup, walkedOut, destinationsOf, WalksWhole}
 use Rattle.plan_walk.specs.declared.Cursor.{Cursor}
 use Rattle.plan_walker.specs.declared.Walker.{Walker}
 use Rattle.plan_walk.specs.declared.WalkAnswer.{WalkAnswer}
-use Rattle.plan_walk.proofs.Walking.{refused-old, start-number, step-refused, step-stays, step-number}
+use Rattle.plan_walk.proofs.Walking.{refused-old, start-number, start-place, step-refused, step-stays, step-number, step-place}
 
 abbrev destinations : List Row → List ℕ
 destinations l = map (λ (r : Row). r .destination) l
 
 -- the lookup of the (k + 1)th row
 abbrev rowLookup : ℕ → List Row → Lookup
-rowLookup k l = destinationOf (cond (leb (suc k) (length l)) (rowFound (getD l k noRow)) (noChuteRow noSuchChute))
+rowLookup k l = destinationOf (cond (leb (suc k) (length l)) (rowFound (getD l k noRow)) (noChuteRow noSuchChute noPlace))
 
 take-none : (n : ℕ) → take {A = ℕ} n [] ≡ []
 take-none zero = refl
@@ -41,9 +42,12 @@ module _ (plan : RefT (List ℕ)) where
   abbrev s : List ℕ
   s = now plan
 
-  -- a walker of the plan at a place, its (k + 1)th answer, and what k asks hand out
+  -- a walk over a plan that was read, standing at a row; its walker, its (k + 1)th answer, and what k asks hand out
+  abbrev cursor : ℕ → Cursor
+  cursor at = record { at = at; number = done; place = noPlace }
+
   abbrev at-row : ℕ → Walker
-  at-row at = walkerAt plan (record { at = at; number = done })
+  at-row at = walkerAt plan (cursor at)
 
   abbrev nth : ℕ → Walker → Lookup
   nth k w = answerLookup (asks (afterAsks k w))
@@ -56,7 +60,7 @@ module _ (plan : RefT (List ℕ)) where
   AsksFrom at (rows l) = (k : ℕ) → Asked k (at-row at) l
   AsksFrom at (refused n place) = Unit
 
-  end-stays : (at : ℕ) → drop at s ≡ [] → asks (at-row at) ≡ stay noSuchChute (record { at = at; number = done })
+  end-stays : (at : ℕ) → drop at s ≡ [] → asks (at-row at) ≡ stay noSuchChute noPlace (cursor at)
   unfolding walkStep groups
   end-stays at e = rw e
 
@@ -77,7 +81,7 @@ module _ (plan : RefT (List ℕ)) where
       (more .0 ∙ ih .0 ∙ rw (leb·suc-zero k, leb·suc-zero (suc k)), more .1 ∙ ih .1 ∙ take-none k)
 
   row-read : (at v next : ℕ) (rest : List ℕ) → planNumber at (drop at s) ≡ value v next rest
-      → asks (at-row at) ≡ record { number = done; destination = v; next = record { at = next; number = done } }
+      → asks (at-row at) ≡ record { number = done; destination = v; place = noPlace; next = cursor next }
   unfolding walkStep
   row-read at v next rest e = rw e
 
@@ -107,9 +111,9 @@ module _ (plan : RefT (List ℕ)) where
       go (value v next rest) e r ih = rw (r .1) (asks-row at v next rest (rowsFrom n next (drop next s)) e (ih next))
       go (bad place) e r ih = tt
 
-  asks-plan : AsksFrom (placeAfter (planNumber 0 s)) (planOf s)
+  asks-plan : AsksFrom (pastNumber (planNumber 0 s)) (planOf s)
   unfolding planOf
-  asks-plan = long (ltb maxPlan (length s)) (placeAfter (planNumber 0 s)) (planIn s) (go (planNumber 0 s) (groups-rest readsPadded true 2 0 s))
+  asks-plan = long (ltb maxPlan (length s)) (pastNumber (planNumber 0 s)) (planIn s) (go (planNumber 0 s) (groups-rest readsPadded true 2 0 s))
     where
       long : (b : Bool) (at : ℕ) (p : Plan) → AsksFrom at p → AsksFrom at (cond b (refused inputTooLong 0) p)
       long true at p x = tt
@@ -120,7 +124,7 @@ module _ (plan : RefT (List ℕ)) where
       most false at p x = tt
 
       go : (p : Parsed) → Rest 0 s p
-          → AsksFrom (placeAfter p) (afterNumber p (λ count next rest. cond (leb count maxRows) (rowsFrom count next rest) (malformed 0)))
+          → AsksFrom (pastNumber p) (afterNumber p (λ count next rest. cond (leb count maxRows) (rowsFrom count next rest) (malformed 0)))
       go (value v next rest) r = rw (r .1) (most (leb v maxRows) next (rowsFrom v next (drop next s)) (asks-rows v next))
       go (bad place) r = tt
 
@@ -129,7 +133,7 @@ module _ (plan : RefT (List ℕ)) where
     abbrev w : Walker
     w = walkerAt plan c
 
-    refused-stays : asks w ≡ stay (c .number) c
+    refused-stays : asks w ≡ stay (c .number) (c .place) c
     refused-stays = sym (step-refused s c h)
 
     refused-asks : (k : ℕ) → (afterAsks k w ≡ w) × (walkedOut k w ≡ [])
@@ -145,22 +149,25 @@ module _ (plan : RefT (List ℕ)) where
   kept zero c = refl
   kept (suc k) c = kept k (walkStep s c .next)
 
-  -- and so is the number
-  kept-number : (k : ℕ) (c : Cursor) → afterAsks k (walkerAt plan c) .cursor .number ≡ c .number
+  -- and so are the number and the place
+  kept-refusal : (k : ℕ) (c : Cursor)
+      → let e = afterAsks k (walkerAt plan c) .cursor in (e .number ≡ c .number) × (e .place ≡ c .place)
   unfolding afterAsks
-  kept-number zero c = refl
-  kept-number (suc k) c = kept-number k (walkStep s c .next) ∙ step-number s c
+  kept-refusal zero c = (refl, refl)
+  kept-refusal (suc k) c = let ih = kept-refusal k (walkStep s c .next) in (ih .0 ∙ step-number s c, ih .1 ∙ step-place s c)
 
   -- by what the plan is, the asks from its start
   module _ (k : ℕ) where
     abbrev startFor : Plan → Cursor
-    startFor p = record { at = ifDone (summary (planAnswer 0 p) .number) (firstRowPlace s) 0; number = summary (planAnswer 0 p) .number }
+    startFor p =
+        let a = summary (planAnswer 0 p) in
+        record { at = ifDone (a .number) (firstRowAt s) 0; number = a .number; place = a .place }
 
     abbrev AnswersAs : Plan → Cursor → Type 0
     AnswersAs p c =
         (nth k (walkerAt plan c) ≡ destinationOf (chuteRow (suc k) (planAnswer (suc k) p))) × (walkedOut k (walkerAt plan c) ≡ take k (destinationsOf p))
 
-    asks-go : (p : Plan) → Numbered p → AsksFrom (firstRowPlace s) p → AnswersAs p (startFor p)
+    asks-go : (p : Plan) → Numbered p → AsksFrom (firstRowAt s) p → AnswersAs p (startFor p)
     asks-go (rows l) u a = let one : 1 ≤ suc k = omega arith in rw (le-leb 1 (suc k) one) (a k)
     asks-go (refused n place) u a =
         let h : n ≡ done → ⊥ = λ e. omega arith in
@@ -172,9 +179,9 @@ module _ (plan : RefT (List ℕ)) where
     unfolding walkStart summaryOf
     asks-all = asks-go (planOf s) (plan-numbered s) asks-plan
 
-    refused-place : (summaryOf s .number ≡ done → ⊥) → afterAsks k (walkerOf plan) .cursor .at ≡ 0
+    refused-at : (summaryOf s .number ≡ done → ⊥) → afterAsks k (walkerOf plan) .cursor .at ≡ 0
     unfolding walkStart
-    refused-place h = rw (refused-asks (walkStart s) h k .0) (refused-old (summaryOf s .number) (firstRowPlace s) 0 h)
+    refused-at h = rw (refused-asks (walkStart s) h k .0) (refused-old (summaryOf s .number) (firstRowAt s) 0 h)
 
 pub walks : WalksWhole
 unfolding lookupOf chuteRowOf
@@ -185,6 +192,7 @@ walks plan k =
       destinations = asks-all plan k .1;
       stays = step-stays (now (w .plan)) (w .cursor);
       keeps = kept plan k (walkStart (now plan));
-      number = kept-number plan k (walkStart (now plan)) ∙ start-number (now plan);
-      no-place = refused-place plan k;
+      number = kept-refusal plan k (walkStart (now plan)) .0 ∙ start-number (now plan);
+      place = kept-refusal plan k (walkStart (now plan)) .1 ∙ start-place (now plan);
+      refused-at = refused-at plan k;
     }

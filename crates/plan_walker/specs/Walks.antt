@@ -25,9 +25,9 @@ unfoldable pub afterAsks : ℕ → Walker → Walker
 afterAsks zero w = w
 afterAsks (suc k) w = afterAsks k (moved w (asks w .next))
 
--- an answer without the place
+-- an answer without where the walk stands next
 abbrev pub answerLookup : WalkAnswer → Lookup
-answerLookup a = record { number = a .number; destination = a .destination }
+answerLookup a = record { number = a .number; destination = a .destination; place = a .place }
 
 -- the destinations that k asks hand out
 unfoldable pub walkedOut : ℕ → Walker → List ℕ
@@ -47,10 +47,11 @@ pub record Walks (plan : RefT (List ℕ)) (k : ℕ) : Type 0 where
   pub destinations : walkedOut k (walkerOf plan) ≡ take k (destinationsOf (planOf (now plan)))
   -- an ask that hands out nothing leaves the walker as it was
   pub stays : (asks (afterAsks k (walkerOf plan)) .number ≡ done → ⊥) → asks (afterAsks k (walkerOf plan)) .next ≡ afterAsks k (walkerOf plan) .cursor
-  -- the walker keeps the lent plan and its number, and the place of a refused plan is 0
+  -- the walker keeps the lent plan, its number and its place, and on a refused plan it stands at 0
   pub keeps : afterAsks k (walkerOf plan) .plan ≡ plan
   pub number : afterAsks k (walkerOf plan) .cursor .number ≡ summaryOf (now plan) .number
-  pub no-place : (summaryOf (now plan) .number ≡ done → ⊥) → afterAsks k (walkerOf plan) .cursor .at ≡ 0
+  pub place : afterAsks k (walkerOf plan) .cursor .place ≡ summaryOf (now plan) .place
+  pub refused-at : (summaryOf (now plan) .number ≡ done → ⊥) → afterAsks k (walkerOf plan) .cursor .at ≡ 0
 
 abbrev pub WalksWhole : Type 0
 WalksWhole = (plan : RefT (List ℕ)) (k : ℕ) → Walks plan k

@@ -1,4 +1,4 @@
-// The walker (docs/RULES.md, 'Chute plan'): keeps a lent plan and its place in it, and hands out the rows' destinations one after another.
+// The walker (docs/RULES.md, 'Chute plan'): keeps a lent plan and where it stands in it, and hands out the rows' destinations one after another.
 use plan_walk::Cursor;
 use plan_walk::WalkAnswer;
 ghost use mathlib.Core.Path.{_≡_};

@@ -8,10 +8,11 @@ use lib.ListN.{length, getD}
 use lib.Dec.{ltb, leb, eqb}
 use borrow.Author.Tests.{ltb-true, ltb-false, leb-true, le-leb, eq-eqb}
 use Rattle.answers.specs.Numbers.{done, malformedPlan, noSuchChute}
+use Rattle.answers.specs.Breaches.{noPlace}
 use Rattle.leb128_write.specs.Written.{writtenNumber}
 use Rattle.plan_read.specs.Limits.{maxRows, maxDestination}
 use Rattle.plan_read.specs.Plan.{rows, planOf}
-use Rattle.plan.specs.Answers.{lookupOf, lookupIn, noDestination}
+use Rattle.plan.specs.Answers.{lookupOf, lookupIn, foundDestination, noDestination}
 use Rattle.plan.specs.Laws.{lookup-row, lookup-zero, lookup-past, count-rows}
 use Rattle.plan_read.specs.declared.Row.{Row}
 use Rattle.plan.specs.declared.Lookup.{Lookup}
@@ -40,7 +41,7 @@ module _ (l : List ℕ) (ok : allowed l ≡ true) where
   every (suc c) = go (ltb c (length l)) refl
     where
       go : (t : Bool) → ltb c (length l) ≡ t
-          → lookupOf (writtenPlan l) (suc c) ≡ cond {A = Lookup} t (record { number = done; destination = getD l c 0 }) (noDestination noSuchChute)
+          → lookupOf (writtenPlan l) (suc c) ≡ cond {A = Lookup} t (foundDestination (getD l c 0)) (noDestination noSuchChute noPlace)
       go true e =
           let h : c < length l = ltb-true _ _ e in
           let g : c < length d = omega (arith, same-length) in

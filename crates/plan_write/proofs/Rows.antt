@@ -12,7 +12,7 @@ use Rattle.answers.specs.Numbers.{done, malformedPlan}
 use Rattle.stores.specs.Laws.{sets-append, sets-all}
 use Rattle.leb128_write.specs.Written.{writtenNumber}
 use Rattle.plan_read.specs.Limits.{maxRows, maxDestination}
-use Rattle.plan_length.specs.Length.{writtenRows, writtenPlan, rowsAllowed, allowed, lengthIs, noLength, lengthOf}
+use Rattle.plan_length.specs.Length.{writtenRows, writtenPlan, rowsAllowed, allowed, lengthIs, noLength, lengthOf, writeAnswer}
 use Rattle.plan_length.specs.Laws.{and-left, and-right}
 use Rattle.plan_length.specs.declared.PlanLength.{PlanLength}
 use Rattle.plan_length.proofs.Rows.{here, rows-length, rows-allowed}
@@ -63,26 +63,26 @@ module _ (l : List ℕ) (p : PlanLength) (e : p ≡ lengthOf l) (z : p .number �
   )
 
   -- refused where the buffer has another length
-  pub other-length : (out : List ℕ) → (p .length ≡ length out → ⊥) → WritesPlan l out out malformedPlan
+  pub other-length : (out : List ℕ) → (p .length ≡ length out → ⊥) → WritesPlan l out out (writeAnswer malformedPlan)
   unfolding writeRefusal writtenOf fills
   other-length out n =
       let d : length (writtenPlan l) ≡ length out → ⊥ = λ q. n (known-length ∙ q) in
-      record { number = rw (known-allowed, ne-eqb _ _ d); buffer = rw (known-allowed, ne-eqb _ _ d) }
+      record { answer = rw (known-allowed, ne-eqb _ _ d); buffer = rw (known-allowed, ne-eqb _ _ d) }
 
   -- else both runs of stores together are the plan
   pub all-written : (out a b : List ℕ) → p .length ≡ length out → a ≡ sets out 0 (writtenNumber (length l))
       → b ≡ sets a (length (writtenNumber (length l))) (writtenRows l)
-      → WritesPlan l out b done
+      → WritesPlan l out b (writeAnswer done)
   unfolding writeRefusal writtenOf fills writtenPlan
   all-written out a b n ea eb =
       let m : length (writtenPlan l) ≡ length out = sym known-length ∙ n in
       let k : 0 + length (writtenNumber (length l)) ≡ length (writtenNumber (length l)) = omega arith in
       let whole : sets out 0 (writtenPlan l) ≡ b = sets-append out 0 (writtenNumber (length l)) (writtenRows l) ∙ rw (k, ← ea, ← eb) in
-      record { number = rw (known-allowed, eq-eqb _ _ m); buffer = rw (known-allowed, eq-eqb _ _ m) (sym whole ∙ sets-all out (writtenPlan l) m) }
+      record { answer = rw (known-allowed, eq-eqb _ _ m); buffer = rw (known-allowed, eq-eqb _ _ m) (sym whole ∙ sets-all out (writtenPlan l) m) }
 
-pub not-allowed : (l out : List ℕ) (p : PlanLength) → p ≡ lengthOf l → (p .number ≡ done → ⊥) → WritesPlan l out out malformedPlan
+pub not-allowed : (l out : List ℕ) (p : PlanLength) → p ≡ lengthOf l → (p .number ≡ done → ⊥) → WritesPlan l out out (writeAnswer malformedPlan)
 unfolding writeRefusal writtenOf fills lengthOf
-not-allowed l out p e n = let r = go (allowed l) (λ q. n (ap (λ (t : PlanLength). t .number) e ∙ q)) in record { number = r .0; buffer = r .1 }
+not-allowed l out p e n = let r = go (allowed l) (λ q. n (ap (λ (t : PlanLength). t .number) e ∙ q)) in record { answer = ap writeAnswer (r .0); buffer = r .1 }
   where
     go : (b : Bool) → (cond {A = PlanLength} b (lengthIs (length (writtenPlan l))) noLength .number ≡ done → ⊥)
         → (malformedPlan ≡ cond (b && eqb (length (writtenPlan l)) (length out)) done malformedPlan) ×

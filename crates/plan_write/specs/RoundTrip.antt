@@ -4,6 +4,7 @@ use mathlib.Core.Path.{_≡_}
 use mathlib.Core.List.{List, [], _∷_}
 use lib.ListN.{length}
 use Rattle.answers.specs.Numbers.{done}
+use Rattle.answers.specs.Breaches.{noPlace}
 use Rattle.plan_read.specs.Limits.{maxRows, maxDestination}
 use Rattle.plan.specs.Answers.{summaryOf, lookupOf, lookupIn}
 use Rattle.plan_length.specs.Length.{lengthOf}
@@ -11,7 +12,7 @@ use Rattle.plan_write.specs.Write.{writeRefusal, writtenOf}
 
 -- bytes that answer as the rows l do, at every chute, those that they do not have too
 pub record ReadsAs (l s : List ℕ) : Type 0 where
-  pub count : summaryOf s ≡ record { number = done; rows = length l }
+  pub count : summaryOf s ≡ record { number = done; rows = length l; place = noPlace }
   pub every-chute : (chute : ℕ) → lookupOf s chute ≡ lookupIn l chute
 
 -- every destination fits three groups

@@ -7,7 +7,8 @@ use mathlib.Core.Bool.{Bool, cond, _&&_}
 use lib.Dec.{eqb}
 use lib.ListN.{length}
 use Rattle.answers.specs.Numbers.{done, malformedPlan}
-use Rattle.plan_length.specs.Length.{writtenPlan, allowed}
+use Rattle.plan_length.specs.Length.{writtenPlan, allowed, writeAnswer}
+use Rattle.plan_length.specs.declared.PlanWritten.{PlanWritten}
 
 -- rows keep the rules and fill n bytes exactly
 unfoldable pub fills : List ℕ → ℕ → Bool
@@ -21,6 +22,6 @@ unfoldable pub writtenOf : List ℕ → List ℕ → List ℕ
 writtenOf l out = cond (fills l (length out)) (writtenPlan l) out
 
 -- writing these rows into a lent buffer answers r, and leaves `after` in it
-pub record WritesPlan (l out after : List ℕ) (r : ℕ) : Type 0 where
-  pub number : r ≡ writeRefusal l (length out)
+pub record WritesPlan (l out after : List ℕ) (r : PlanWritten) : Type 0 where
+  pub answer : r ≡ writeAnswer (writeRefusal l (length out))
   pub buffer : after ≡ writtenOf l out

@@ -16,7 +16,9 @@ pub const REPORT: Command = Command {
     purpose: "print how many chutes a hall plan has, and its halls with each chute and its destination",
     operands: &["PLAN"],
     options: &[],
-    notes: "What is in a hall stands below it, two spaces deeper. What is printed can be given to hailfeather hall write.",
+    notes: "What is in a hall stands below it, two spaces deeper. What is printed can be given to hailfeather hall write.
+A malformed plan is refused with the byte, from 0, at which it is malformed: as hailfeather plan report has it, and of a kind other than
+0 or 1, of a hall beyond the eighth level and of a chute beyond the 4,096th the kind's first byte.",
     examples: "printf '\\002\\001\\002\\000\\007\\000\\254\\002\\000\\000' | hailfeather hall report
 # chutes 3
 # hall
@@ -28,7 +30,12 @@ printf 'hall\\n  hall\\n  9\\n' | hailfeather hall write -o halls.plan && hailfe
 # chutes 1
 # hall
 #   hall
-#   1 9",
+#   1 9
+
+printf '\\002\\000\\007\\002\\000' > kind.plan
+hailfeather hall report kind.plan 2>&1 || echo status $?
+# refused 9 at byte 3: the plan is malformed
+# status 9",
     refusals: &[("hall_read", &[5, 9])],
     run: report,
 };
@@ -38,7 +45,8 @@ pub const LOOKUP: Command = Command {
     purpose: "print the destination of one chute of a hall plan",
     operands: &["CHUTE", "PLAN"],
     options: &[],
-    notes: "Chutes count from 1 in reading order, through all halls.",
+    notes: "Chutes count from 1 in reading order, through all halls.
+A malformed plan is refused with the byte, from 0, at which it is malformed.",
     examples: "printf '\\002\\001\\002\\000\\007\\000\\254\\002\\000\\000' > halls.plan
 hailfeather hall lookup 2 halls.plan
 # 300

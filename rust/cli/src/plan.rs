@@ -18,7 +18,9 @@ pub const REPORT: Command = Command {
     purpose: "print how many rows a plan has, and each chute with its destination",
     operands: &["PLAN"],
     options: &[],
-    notes: "What is printed can be given to hailfeather plan write.",
+    notes: "What is printed can be given to hailfeather plan write. A malformed plan is refused with the byte, from 0, at which it is malformed:
+of a number that is cut its first missing byte, of one that goes on after three groups the third byte, of more than 4,096 rows 0,
+and of bytes after the last row the first.",
     examples: "printf '\\003\\007\\254\\002\\000' | hailfeather plan report
 # rows 3
 # 1 7
@@ -27,7 +29,12 @@ pub const REPORT: Command = Command {
 
 printf '9\\n' | hailfeather plan write -o depot.plan && hailfeather plan report depot.plan
 # rows 1
-# 1 9",
+# 1 9
+
+printf '\\003\\007\\254' > cut.plan
+hailfeather plan report cut.plan 2>&1 || echo status $?
+# refused 9 at byte 3: the plan is malformed
+# status 9",
     refusals: &[("plan_start", &[5, 9])],
     run: report,
 };
@@ -41,7 +48,8 @@ pub const LOOKUP: Command = Command {
         Kind::Input("PLAN"),
         "a house plan, asked for the chutes that PLAN, then the site plan, does not have",
     )],
-    notes: "Chutes count from 1. With a house plan the word site or house follows, for the plan that has the chute.",
+    notes: "Chutes count from 1. With a house plan the word site or house follows, for the plan that has the chute.
+A malformed plan is refused with the byte, from 0, at which it is malformed; of two plans the site plan is read first.",
     examples: "printf '\\003\\007\\254\\002\\000' > depot.plan
 hailfeather plan lookup 2 depot.plan
 # 300
@@ -49,7 +57,12 @@ hailfeather plan lookup 2 depot.plan
 printf '9\\n' | hailfeather plan write -o site.plan && hailfeather plan lookup 1 site.plan --house depot.plan
 # 9 site
 hailfeather plan lookup 2 site.plan --house depot.plan
-# 300 house",
+# 300 house
+
+printf '\\003\\007\\254' > cut.plan
+hailfeather plan lookup 1 site.plan --house cut.plan 2>&1 || echo status $?
+# refused 9 at byte 3 of the house plan: the plan is malformed
+# status 9",
     refusals: &[("plan_destination", &[5, 9, 10]), ("plan_row", &[5, 9, 10])],
     run: lookup,
 };

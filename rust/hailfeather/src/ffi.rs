@@ -6,9 +6,9 @@ mod plans;
 pub use plans::*;
 use std::mem::{offset_of, size_of};
 
-/// HF_VERSION of the header: 0.1.0.
+/// HF_VERSION of the header: 0.2.0.
 #[cfg(test)]
-pub const VERSION: u32 = 100;
+pub const VERSION: u32 = 200;
 
 #[repr(C)]
 pub struct hf_outcome {

@@ -8,7 +8,9 @@
 //! Outside its bytes a hall plan is its outermost number of entries and two lists of equal length, with an element for each entry in reading order,
 //! so that a hall's entries follow the hall at once: the kinds, [`CHUTE`] or [`HALL`], and the values, a destination or a hall's number of entries.
 //!
-//! Every function reads its plan, or its lists, whole, so what is bad anywhere is refused.
+//! Every function reads its plan, or its lists, whole, so what is bad anywhere is refused. The [`Refusal`] of a malformed plan tells the
+//! [place](Refusal::place): as in a chute plan, and that of the first byte of a kind which is neither 0 nor 1, or of a hall beyond the eighth level, or of
+//! a chute beyond the 4,096th.
 //!
 //! ```
 //! use hailfeather::hall::{self, CHUTE, HALL};
@@ -20,7 +22,7 @@
 //! ```
 
 use crate::ffi;
-use crate::refusal::{check, Refusal};
+use crate::refusal::{check, check_plan, Refusal};
 
 /// The kind of an entry with a destination.
 pub const CHUTE: u8 = 0;
@@ -50,7 +52,7 @@ pub struct Halls {
 }
 
 fn answered(entry: &str, read: ffi::hf_halls) -> Result<Summary, Refusal> {
-    check(entry, read.number).map(|()| Summary {
+    check_plan(entry, read.number, read.place).map(|()| Summary {
         outer: read.outer,
         entries: read.entries,
         chutes: read.chutes,
@@ -64,7 +66,8 @@ fn answered(entry: &str, read: ffi::hf_halls) -> Result<Summary, Refusal> {
 /// let plan = [0x02, 0x01, 0x02, 0x00, 0x07, 0x00, 0xAC, 0x02, 0x00, 0x00];
 /// assert_eq!(summary(&plan)?, Summary { outer: 2, entries: 4, chutes: 3 });
 /// assert_eq!(summary(&[0x00])?, Summary { outer: 0, entries: 0, chutes: 0 });
-/// assert_eq!(summary(&[]).unwrap_err().to_string(), "refused 9: the plan is malformed");
+/// assert_eq!(summary(&[]).unwrap_err().to_string(), "refused 9 at byte 0: the plan is malformed");
+/// assert_eq!(summary(&[0x01, 0x02, 0x00]).unwrap_err().to_string(), "refused 9 at byte 1: the plan is malformed");
 /// # Ok::<(), hailfeather::Refusal>(())
 /// ```
 pub fn summary(plan: &[u8]) -> Result<Summary, Refusal> {
@@ -84,10 +87,11 @@ pub fn summary(plan: &[u8]) -> Result<Summary, Refusal> {
 pub fn destination(plan: &[u8], chute: u64) -> Result<u32, Refusal> {
     // SAFETY: as in `summary`.
     let found = unsafe { ffi::hf_hall_destination(plan.as_ptr(), plan.len(), chute) };
-    check("hall_destination", found.number).map(|()| found.destination)
+    check_plan("hall_destination", found.number, found.place).map(|()| found.destination)
 }
 
-/// Reads a hall plan into two lists, each of exactly the length that [`summary`] answers as the number of entries. Refuses with 5, 9.
+/// Reads a hall plan into two lists, each of exactly the length that [`summary`] answers as the number of entries. Refuses with 5, 9; with
+/// 9 for lists of another length there is no place, unless the plan is malformed too.
 ///
 /// ```
 /// use hailfeather::hall::{read_into, CHUTE, HALL};
@@ -95,12 +99,13 @@ pub fn destination(plan: &[u8], chute: u64) -> Result<u32, Refusal> {
 /// let (mut kinds, mut values) = ([0; 4], [0; 4]);
 /// assert_eq!(read_into(&plan, &mut kinds, &mut values)?.outer, 2);
 /// assert_eq!((kinds, values), ([HALL, CHUTE, CHUTE, CHUTE], [2, 7, 300, 0]));
-/// assert_eq!(read_into(&plan, &mut kinds, &mut [0; 5]).unwrap_err().number(), 9);
+/// let refusal = read_into(&plan, &mut kinds, &mut [0; 5]).unwrap_err();
+/// assert_eq!(refusal.to_string(), "refused 9: the plan is malformed, or the lists are not exactly as long as it has entries");
 /// # Ok::<(), hailfeather::Refusal>(())
 /// ```
 pub fn read_into(plan: &[u8], kinds: &mut [u8], values: &mut [u32]) -> Result<Summary, Refusal> {
     // SAFETY: as in `summary`; `kinds` and `values` overlap nothing.
-    answered("hall_read_into", unsafe {
+    let read = unsafe {
         ffi::hf_hall_read_into(
             plan.as_ptr(),
             plan.len(),
@@ -109,7 +114,13 @@ pub fn read_into(plan: &[u8], kinds: &mut [u8], values: &mut [u32]) -> Result<Su
             values.as_mut_ptr(),
             values.len(),
         )
-    })
+    };
+    // No hall plan but the empty one is malformed at byte 0, since kinds stand at byte 1 or later and no number of entries is refused as too great:
+    // else a 9 with that place is for the lists, and the plan has no place to tell.
+    if read.place == 0 && !plan.is_empty() {
+        check("hall_read_into", read.number)?;
+    }
+    answered("hall_read_into", read)
 }
 
 /// The halls of a plan, in lists of their own. Refuses with 5, 9.
@@ -153,7 +164,7 @@ pub fn length(outer: u64, kinds: &[u8], values: &[u32]) -> Result<usize, Refusal
 /// ```
 pub fn write(outer: u64, kinds: &[u8], values: &[u32], out: &mut [u8]) -> Result<(), Refusal> {
     // SAFETY: as in `summary`; `out` overlaps nothing.
-    check("hall_write", unsafe {
+    let written = unsafe {
         ffi::hf_hall_write(
             outer,
             kinds.as_ptr(),
@@ -163,7 +174,8 @@ pub fn write(outer: u64, kinds: &[u8], values: &[u32], out: &mut [u8]) -> Result
             out.as_mut_ptr(),
             out.len(),
         )
-    })
+    };
+    check("hall_write", written.number)
 }
 
 /// The plan with these halls. Refuses with 5, 9.

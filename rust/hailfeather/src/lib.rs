@@ -67,9 +67,9 @@
 //! # Refusals
 //!
 //! A call is done, or it is refused and has changed nothing: not the lent buffers, not the session, not the generator. A [`Refusal`] has the number
-//! that the library gave and says what is wrong in words; as an [`std::io::Error`] it goes through `?` in programs that read and write files. No
-//! input makes a call panic. The [`limits`] say how long what may be. Most calls answer how many permutation [`Runs`] they take, which tells what
-//! they cost.
+//! that the library gave and says what is wrong in words, for a malformed plan with the byte; as an [`std::io::Error`] it goes through `?` in programs
+//! that read and write files. No input makes a call panic. The [`limits`] say how long what may be. Most calls answer how many permutation [`Runs`]
+//! they take, which tells what they cost.
 //!
 //! # What is not promised
 //!

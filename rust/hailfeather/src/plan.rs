@@ -7,6 +7,10 @@
 //! Every function reads its plan whole, so a plan that is bad anywhere is refused whichever chute is asked for. A
 //! [`Walk`] over all rows reads it whole only when it is made.
 //!
+//! The [`Refusal`] of a malformed plan tells the [place](Refusal::place) of the first breach in reading order: of the first missing byte, which is the
+//! plan's length, where a number ends too early; of a number's third byte where it goes on after that; 0 where there are more than 4,096 rows; and of the
+//! first byte after the last row.
+//!
 //! ```
 //! use hailfeather::plan;
 //! let written = plan::to_vec(&[7, 300, 0])?;
@@ -16,10 +20,12 @@
 //! # Ok::<(), hailfeather::Refusal>(())
 //! ```
 
-use std::iter::FusedIterator;
-
 use crate::ffi;
-use crate::refusal::{check, Refusal};
+use crate::refusal::{check, check_plan, check_plans, Refusal};
+
+mod walk;
+
+pub use walk::Walk;
 
 /// How many rows a plan has. Refuses with 5, 9.
 ///
@@ -27,13 +33,14 @@ use crate::refusal::{check, Refusal};
 /// use hailfeather::plan::rows;
 /// assert_eq!(rows(&[0x03, 0x07, 0xAC, 0x02, 0x00])?, 3);
 /// assert_eq!(rows(&[0x00])?, 0);
-/// assert_eq!(rows(&[]).unwrap_err().to_string(), "refused 9: the plan is malformed");
+/// assert_eq!(rows(&[]).unwrap_err().to_string(), "refused 9 at byte 0: the plan is malformed");
+/// assert_eq!(rows(&[0x03, 0x07, 0xAC]).unwrap_err().to_string(), "refused 9 at byte 3: the plan is malformed");
 /// # Ok::<(), hailfeather::Refusal>(())
 /// ```
 pub fn rows(plan: &[u8]) -> Result<u32, Refusal> {
     // SAFETY: the pointer comes from a slice with its length; a slice's pointer is never null.
     let read = unsafe { ffi::hf_plan_read(plan.as_ptr(), plan.len()) };
-    check("plan_read", read.number).map(|()| read.rows)
+    check_plan("plan_read", read.number, read.place).map(|()| read.rows)
 }
 
 /// The destination of one chute. Refuses with 5, 9, and with 10 where the chute is 0 or greater than this plan's number of rows.
@@ -48,16 +55,27 @@ pub fn rows(plan: &[u8]) -> Result<u32, Refusal> {
 pub fn destination(plan: &[u8], chute: u64) -> Result<u32, Refusal> {
     // SAFETY: as in `rows`.
     let found = unsafe { ffi::hf_plan_destination(plan.as_ptr(), plan.len(), chute) };
-    check("plan_destination", found.number).map(|()| found.destination)
+    check_plan("plan_destination", found.number, found.place).map(|()| found.destination)
 }
 
-/// Which of two plans a row came from.
+/// One of two plans: that a row came from, or that is malformed.
 #[derive(Clone, Copy, Debug, PartialEq, Eq, Hash)]
 pub enum Source {
     /// The site plan, which is asked first.
     Site,
     /// The house plan, which is asked where the site plan does not have the chute.
     House,
+}
+
+impl Source {
+    /// The plan that the library means by a number of the header's `hf_source`.
+    fn named(number: u8) -> Option<Source> {
+        match number {
+            1 => Some(Source::Site),
+            2 => Some(Source::House),
+            _ => None,
+        }
+    }
 }
 
 /// A row of one of two plans, as [`row`] answers it.
@@ -73,7 +91,8 @@ pub struct Row<'a> {
 
 /// The row of a chute: of the site plan if it has that chute, else of the house plan.
 ///
-/// Refuses with 5, 9 where either plan is bad, and with 10 where neither has the chute.
+/// Refuses with 5, 9 where either plan is bad, and with 10 where neither has the chute. With 9 the refusal tells
+/// [which plan is malformed](Refusal::malformed).
 ///
 /// ```
 /// use hailfeather::plan::{row, Source};
@@ -82,17 +101,17 @@ pub struct Row<'a> {
 /// assert_eq!(row(&site, &house, 1)?.source, Source::Site);
 /// let second = row(&site, &house, 2)?;
 /// assert_eq!((second.source, second.start, second.bytes), (Source::House, 2, &[0xAC, 0x02][..]));
+/// assert_eq!(row(&site[..1], &house, 1).unwrap_err().to_string(), "refused 9 at byte 1 of the site plan: the plan is malformed");
 /// assert_eq!(row(&site, &house, 4).unwrap_err().to_string(), "refused 10: neither plan has such a chute");
 /// # Ok::<(), hailfeather::Refusal>(())
 /// ```
 pub fn row<'a>(site: &'a [u8], house: &'a [u8], chute: u64) -> Result<Row<'a>, Refusal> {
     // SAFETY: as in `rows`.
     let found = unsafe { ffi::hf_plan_row(site.as_ptr(), site.len(), house.as_ptr(), house.len(), chute) };
-    check("plan_row", found.number)?;
-    let (source, plan) = if found.source == 1 {
-        (Source::Site, site)
-    } else {
-        (Source::House, house)
+    check_plans("plan_row", found.number, found.place, Source::named(found.malformed))?;
+    let (source, plan) = match Source::named(found.source) {
+        Some(Source::Site) => (Source::Site, site),
+        _ => (Source::House, house),
     };
     Ok(Row {
         source,
@@ -128,9 +147,8 @@ pub fn length(destinations: &[u32]) -> Result<usize, Refusal> {
 /// ```
 pub fn write(destinations: &[u32], out: &mut [u8]) -> Result<(), Refusal> {
     // SAFETY: as in `rows`; `out` overlaps nothing.
-    check("plan_write", unsafe {
-        ffi::hf_plan_write(destinations.as_ptr(), destinations.len(), out.as_mut_ptr(), out.len())
-    })
+    let written = unsafe { ffi::hf_plan_write(destinations.as_ptr(), destinations.len(), out.as_mut_ptr(), out.len()) };
+    check("plan_write", written.number)
 }
 
 /// The plan with these destinations. Refuses with 9.
@@ -144,56 +162,3 @@ pub fn to_vec(destinations: &[u32]) -> Result<Vec<u8>, Refusal> {
     write(destinations, &mut plan)?;
     Ok(plan)
 }
-
-/// The destinations of a plan's rows, one after another.
-#[derive(Clone, Debug)]
-pub struct Walk<'a> {
-    plan: &'a [u8],
-    cursor: ffi::hf_cursor,
-    left: usize,
-}
-
-impl<'a> Walk<'a> {
-    /// A walk before the first row. Refuses with 5, 9, so the walk itself meets no bad row.
-    ///
-    /// ```
-    /// use hailfeather::plan::Walk;
-    /// let walk = Walk::new(&[0x03, 0x07, 0xAC, 0x02, 0x00])?;
-    /// assert_eq!(walk.len(), 3);
-    /// assert_eq!(walk.collect::<Vec<u32>>(), [7, 300, 0]);
-    /// # Ok::<(), hailfeather::Refusal>(())
-    /// ```
-    pub fn new(plan: &'a [u8]) -> Result<Walk<'a>, Refusal> {
-        // SAFETY: as in `rows`.
-        let cursor = unsafe { ffi::hf_plan_start(plan.as_ptr(), plan.len()) };
-        check("plan_start", cursor.number)?;
-        Ok(Walk {
-            plan,
-            cursor,
-            left: rows(plan)? as usize,
-        })
-    }
-}
-
-impl Iterator for Walk<'_> {
-    type Item = u32;
-
-    fn next(&mut self) -> Option<u32> {
-        // SAFETY: as in `rows`.
-        let step = unsafe { ffi::hf_plan_step(self.plan.as_ptr(), self.plan.len(), self.cursor) };
-        if step.number != 0 {
-            return None; // 10, past the last row: the plan was read whole, and cannot change while it is lent
-        }
-        self.cursor.at = step.next;
-        self.left -= 1;
-        Some(step.destination)
-    }
-
-    fn size_hint(&self) -> (usize, Option<usize>) {
-        (self.left, Some(self.left))
-    }
-}
-
-impl ExactSizeIterator for Walk<'_> {}
-
-impl FusedIterator for Walk<'_> {}

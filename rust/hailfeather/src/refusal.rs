@@ -1,13 +1,24 @@
-//! Refusals, and the count of runs: what a call answers besides the bytes that it writes.
+//! Refusals, with the place of a malformed plan, and the count of runs: what a call answers besides the bytes that it writes.
 
 use std::error::Error;
 use std::fmt;
 use std::io;
 
-use crate::ffi;
+use crate::plan::Source;
 
-/// One line for each refusal that an entry has: the entry, the number, the words.
-const WORDS: &str = include_str!("../refusals.txt");
+mod reason;
+mod runs;
+#[cfg(test)]
+mod tests;
+mod words;
+
+pub use reason::Reason;
+use reason::REASONS;
+pub(crate) use runs::counted;
+pub use runs::Runs;
+pub use words::refusals;
+
+const MALFORMED: u8 = Reason::MalformedPlan as u8;
 
 /// Why a call was refused. Everything lent to a refused call, and the session or generator it was asked of, is as it was before.
 ///
@@ -15,6 +26,14 @@ const WORDS: &str = include_str!("../refusals.txt");
 /// let refusal = hailfeather::kmac256(b"a key", b"", b"a message", &mut []).unwrap_err();
 /// assert_eq!(refusal.number(), 6);
 /// assert_eq!(refusal.to_string(), "refused 6: the output is empty or longer than 16,777,216 bytes");
+/// ```
+///
+/// For a malformed plan it also tells where, which is what a planner with 3,000 rows looks for:
+///
+/// ```
+/// let refusal = hailfeather::plan::rows(&[0x01, 0x80, 0x80, 0x80, 0x00]).unwrap_err();
+/// assert_eq!(refusal.place(), Some(3));
+/// assert_eq!(refusal.to_string(), "refused 9 at byte 3: the plan is malformed");
 /// ```
 ///
 /// Every refusal, after the entry of the library that gives it and its number:
@@ -26,49 +45,20 @@ const WORDS: &str = include_str!("../refusals.txt");
 pub struct Refusal {
     number: u8,
     words: &'static str,
+    place: Option<usize>,
+    malformed: Option<Source>,
 }
-
-/// What a refusal's number stands for, whichever entry gave it. Later versions may have more.
-#[derive(Clone, Copy, Debug, PartialEq, Eq, Hash)]
-#[non_exhaustive]
-pub enum Reason {
-    /// 1: a session that is giving was asked to take, or a generator that was never seeded to draw.
-    WrongState = 1,
-    /// 2: a key has a length that it may not have.
-    BadKeyLength = 2,
-    /// 3: a name, customisation, IV, additional input or personalisation is too long.
-    StringTooLong = 3,
-    /// 4: the name belongs to the standard's own function.
-    ReservedName = 4,
-    /// 5: a message, text with label, seed or plan is too long.
-    InputTooLong = 5,
-    /// 6: an output has a length that it may not have.
-    BadOutputLength = 6,
-    /// 7: a tag is too short or too long.
-    BadTagLength = 7,
-    /// 8: the tag does not match.
-    TagMismatch = 8,
-    /// 9: a plan is malformed, rows or halls cannot be written as one, or a buffer or a list has another length than a plan needs.
-    MalformedPlan = 9,
-    /// 10: the plan has no such chute.
-    NoSuchChute = 10,
-}
-
-/// Every reason, the one with number n at n - 1.
-const REASONS: [Reason; 10] = [
-    Reason::WrongState,
-    Reason::BadKeyLength,
-    Reason::StringTooLong,
-    Reason::ReservedName,
-    Reason::InputTooLong,
-    Reason::BadOutputLength,
-    Reason::BadTagLength,
-    Reason::TagMismatch,
-    Reason::MalformedPlan,
-    Reason::NoSuchChute,
-];
 
 impl Refusal {
+    fn without_place(number: u8, words: &'static str) -> Refusal {
+        Refusal {
+            number,
+            words,
+            place: None,
+            malformed: None,
+        }
+    }
+
     /// What the number stands for, to match on.
     ///
     /// ```
@@ -99,6 +89,35 @@ impl Refusal {
         self.words
     }
 
+    /// The byte of the plan, from 0, at which it is malformed: with the number 9 of a function that reads a plan. `None` with every other number, with
+    /// 9 where no plan that was read is malformed, that is, of a function that measures or writes, or for lists of the wrong length lent to
+    /// [`hall::read_into`](crate::hall::read_into), and for what [`refusals`] lists. [`plan`](crate::plan) and [`hall`](crate::hall) have the place of
+    /// each breach.
+    ///
+    /// ```
+    /// use hailfeather::{hall, plan};
+    /// assert_eq!(plan::rows(&[0x02, 0x07]).unwrap_err().place(), Some(2)); // the second row is missing
+    /// assert_eq!(hall::summary(&[0x01, 0x05, 0x07]).unwrap_err().place(), Some(1)); // there is no kind 5
+    /// assert_eq!(plan::destination(&[0x01, 0x07], 2).unwrap_err().place(), None); // the plan is good, and has no chute 2
+    /// assert_eq!(plan::to_vec(&[2_097_152]).unwrap_err().place(), None); // no plan was read
+    /// ```
+    pub fn place(self) -> Option<usize> {
+        self.place
+    }
+
+    /// Which of two plans is malformed, that the place is in: with the number 9 of [`plan::row`](crate::plan::row) alone. The site plan is read first, so
+    /// it is the one that is named if both are.
+    ///
+    /// ```
+    /// use hailfeather::plan::{row, Source};
+    /// let refusal = row(&[0x01, 0x07], &[0x02, 0x07], 1).unwrap_err();
+    /// assert_eq!((refusal.malformed(), refusal.place()), (Some(Source::House), Some(2)));
+    /// assert_eq!(refusal.to_string(), "refused 9 at byte 2 of the house plan: the plan is malformed");
+    /// ```
+    pub fn malformed(self) -> Option<Source> {
+        self.malformed
+    }
+
     /// The refusal with this number of an entry, named as in refusals.txt.
     ///
     /// Panics where the file has no such line: then the archive is not the one that this package was written for.
@@ -112,30 +131,18 @@ impl Refusal {
     }
 }
 
-/// All refusals that an entry of the library has, by rising number: none for a name that is no entry's. [`Refusal`] lists the entries.
-///
-/// ```
-/// let numbers: Vec<u8> = hailfeather::refusals("draw").map(|refusal| refusal.number()).collect();
-/// assert_eq!(numbers, [1, 3, 6]);
-/// assert_eq!(hailfeather::refusals("no entry").count(), 0);
-/// ```
-pub fn refusals(entry: &str) -> impl Iterator<Item = Refusal> + '_ {
-    lines()
-        .filter(move |line| line.0 == entry)
-        .map(|(_, number, words)| Refusal { number, words })
-}
-
-/// The lines of refusals.txt, taken apart.
-fn lines() -> impl Iterator<Item = (&'static str, u8, &'static str)> {
-    WORDS.lines().filter_map(|line| {
-        let mut parts = line.splitn(3, ' ');
-        Some((parts.next()?, parts.next()?.parse().ok()?, parts.next()?))
-    })
-}
-
 impl fmt::Display for Refusal {
     fn fmt(&self, formatter: &mut fmt::Formatter<'_>) -> fmt::Result {
-        write!(formatter, "refused {}: {}", self.number, self.words)
+        write!(formatter, "refused {}", self.number)?;
+        if let Some(place) = self.place {
+            write!(formatter, " at byte {place}")?;
+        }
+        let plan = match self.malformed {
+            None => "",
+            Some(Source::Site) => " of the site plan",
+            Some(Source::House) => " of the house plan",
+        };
+        write!(formatter, "{plan}: {}", self.words)
     }
 }
 
@@ -154,17 +161,6 @@ impl From<Refusal> for io::Error {
     }
 }
 
-/// The number of permutation runs that an accepted call takes by its definition, for planning how long calls take.
-///
-/// ```
-/// use hailfeather::{kmacxof256, Runs};
-/// assert_eq!(kmacxof256(&[0; 32], b"", b"", &mut [0; 136])?, Runs(3));
-/// assert_eq!(kmacxof256(&[0; 32], b"", b"", &mut [0; 137])?, Runs(4));
-/// # Ok::<(), hailfeather::Refusal>(())
-/// ```
-#[derive(Clone, Copy, Debug, PartialEq, Eq, PartialOrd, Ord, Hash)]
-pub struct Runs(pub usize);
-
 /// An entry's number as a result.
 pub(crate) fn check(entry: &str, number: u8) -> Result<(), Refusal> {
     match number {
@@ -173,69 +169,15 @@ pub(crate) fn check(entry: &str, number: u8) -> Result<(), Refusal> {
     }
 }
 
-/// The answer of an entry that counts its runs.
-pub(crate) fn counted(entry: &str, outcome: ffi::hf_outcome) -> Result<Runs, Refusal> {
-    check(entry, outcome.number).map(|()| Runs(outcome.runs))
+/// The number of an entry that reads a plan as a result: with 9 the refusal has the place.
+pub(crate) fn check_plan(entry: &str, number: u8, place: usize) -> Result<(), Refusal> {
+    check(entry, number).map_err(|refusal| Refusal {
+        place: (number == MALFORMED).then_some(place),
+        ..refusal
+    })
 }
 
-#[cfg(test)]
-mod tests {
-    use super::*;
-
-    #[test]
-    fn every_line_is_found() {
-        assert_eq!(lines().count(), WORDS.lines().count());
-        for line in WORDS.lines() {
-            let (entry, number, words) = lines()
-                .find(|(entry, number, _)| line.starts_with(&format!("{entry} {number} ")))
-                .unwrap();
-            assert_eq!(line, format!("{entry} {number} {words}"));
-            assert_eq!(check(entry, number), Err(Refusal { number, words }));
-        }
-    }
-
-    #[test]
-    fn a_reason_has_its_number() {
-        for (_, number, words) in lines() {
-            assert_eq!(Refusal { number, words }.reason() as u8, number);
-        }
-        assert!((1..).zip(REASONS).all(|(number, reason)| reason as u8 == number));
-    }
-
-    #[test]
-    fn the_archive_is_of_this_version() {
-        // SAFETY: the function takes nothing.
-        assert_eq!(unsafe { ffi::hf_version() }, ffi::VERSION);
-    }
-
-    #[test]
-    fn an_entry_has_its_own_refusals_in_order() {
-        for (entry, ..) in lines() {
-            let own: Vec<_> = lines().filter(|line| line.0 == entry).map(|(_, number, words)| (number, words)).collect();
-            let found: Vec<_> = refusals(entry).map(|refusal| (refusal.number(), refusal.words())).collect();
-            assert_eq!(found, own);
-            assert!(found.windows(2).all(|pair| pair[0].0 < pair[1].0), "{entry}");
-        }
-        for name in ["", "kmac", "kmac256 ", "kmac2567", "KMAC256"] {
-            assert_eq!(refusals(name).count(), 0, "{name}");
-        }
-    }
-
-    #[test]
-    fn an_io_error_keeps_the_refusal() {
-        for (entry, number, words) in lines() {
-            let error = io::Error::from(check(entry, number).unwrap_err());
-            let data = [8, 9].contains(&number);
-            assert_eq!(error.kind() == io::ErrorKind::InvalidData, data);
-            assert_eq!(error.kind() == io::ErrorKind::InvalidInput, !data);
-            assert_eq!(error.to_string(), format!("refused {number}: {words}"));
-            assert_eq!(error.get_ref().and_then(|inner| inner.downcast_ref()), Some(&Refusal { number, words }));
-        }
-    }
-
-    #[test]
-    #[should_panic(expected = "answered kmac256 with 4, which refusals.txt does not list")]
-    fn a_number_without_words_panics() {
-        let _ = check("kmac256", 4);
-    }
+/// The number of an entry that reads two plans as a result: with 9 the refusal has the place, and which plan it is in.
+pub(crate) fn check_plans(entry: &str, number: u8, place: usize, malformed: Option<Source>) -> Result<(), Refusal> {
+    check_plan(entry, number, place).map_err(|refusal| Refusal { malformed, ..refusal })
 }

@@ -46,7 +46,7 @@ fn every_refusal_has_its_words() {
 }
 
 /// Each field of each answer of the small file, changed, makes a difference, but for those that cannot be seen: what a session that could not start
-/// answers, a walk's place, and a generator's key, the last field of its lines, which is seen in the last of them alone.
+/// answers, where a walk stands, and a generator's key, the last field of its lines, which is seen in the last of them alone.
 #[test]
 fn every_wrong_answer_is_found() {
     let lines: Vec<&str> = SMALL.lines().filter(|line| !line.contains("16777")).collect();
@@ -59,8 +59,13 @@ fn every_wrong_answer_is_found() {
         }
         let (call, answer) = line.split_once(" =").unwrap();
         let fields: Vec<&str> = answer.split_whitespace().collect();
-        let unseen = usize::from(line.starts_with("plan_st") || of_generator(line) && lines.get(place + 1).is_some_and(|next| of_generator(next)));
-        for at in 0..fields.len().saturating_sub(unseen) {
+        let unseen = if line.starts_with("plan_st") {
+            fields.len().checked_sub(2) // before the place
+        } else {
+            let goes_on = of_generator(line) && lines.get(place + 1).is_some_and(|next| of_generator(next));
+            fields.len().checked_sub(1).filter(|_| goes_on)
+        };
+        for at in (0..fields.len()).filter(|at| Some(*at) != unseen) {
             let mut wrong = fields.clone();
             let changed = if wrong[at] == "-" { "00".to_string() } else { changed(wrong[at]) };
             wrong[at] = &changed;
@@ -90,8 +95,12 @@ fn a_file_that_is_no_file_of_calls_is_refused() {
         ("kmac128 - - - 32 = 0 3 00", "there is no entry kmac128"),
         ("take 00 = 0", "no session line stands before"),
         ("draw - 1 = 1 0 - 00", "no fresh generator stands before"),
-        ("plan_step = 0 7 2", "no plan_start stands before"),
-        ("plan_length 7 = 0 2 2", "the answer is 0 2"),
+        ("plan_step = 0 7 2 0", "no plan_start stands before"),
+        ("plan_length 7 = 0 2 2", "the answer is 0 2 0"),
+        ("plan_length 7 = 0 2", "the answer is 0 2 0"),
+        ("plan_write 7 2 = 0 0107", "2 fields stand where 3 belong"),
+        ("plan_read 02 = 9 0 0", "the answer is 9 0 1"),
+        ("plan_row 00 02 1 = 9 0 0 0 1 1", "the answer is 9 0 0 0 2 1"),
         ("cshake256 - - - = 0 1 -", "3 fields stand where 4 belong"),
     ] {
         let wrong = Reader::default().read(file).unwrap_err();

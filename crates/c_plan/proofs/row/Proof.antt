@@ -7,7 +7,7 @@ use Rattle.c_plan.proofs.row.Statement.{statement}
 use Rattle.c_plan.proofs.row.Tie as tie
 
 returns : tie.Need-returns
-returns c = rw (c .source-number .ensures) (ap exportedLocation (c .before .row-location .ensures))
+returns c = rw (c .source-number2 .ensures, c .before .source-number .ensures) (ap exportedLocation (c .before .before .row-location .ensures))
 
 pub row-spec : {M : Type 1} → statement M
-row-spec = tie.close (tie.spec (λ c κs. search needs) (λ c κs. search needs) returns)
+row-spec = tie.close (tie.spec (λ c κs. search needs) (λ c κs. search needs) (λ c κs. search needs) returns)

@@ -5,12 +5,13 @@ use mathlib.Core.Bool.{Bool, true, false, cond}
 use Prim.Native.Nat.{ℕ, _+_, _≤_}
 use native.Mathlib.Omega.{arith}
 use lib.ListN.{length, drop, length-drop}
+use Rattle.answers.specs.Breaches.{placeOf}
 use Rattle.leb128.specs.Number.{Parsed, value, bad, maxNumber}
 use Rattle.leb128.specs.Laws.Reading.{Used, groups-used, Rest, groups-rest, limit-three}
 use Rattle.plan_read.specs.Limits.{readsPadded}
 use Rattle.plan_read.specs.Plan.{planNumber}
 use Rattle.hall_entry.specs.Entries.{kindAllowed, Head, first, wrong}
-use Rattle.hall_entry.specs.Bytes.{valued, judged, byteHead}
+use Rattle.hall_entry.specs.Bytes.{valued, kindBreach, judged, byteHead}
 use Rattle.hall_entry.specs.Laws.Heads.{Kind, kind-known, HeadIn, HeadAfter}
 
 module _ (s : List ℕ) where
@@ -47,7 +48,8 @@ module _ (s : List ℕ) where
   judged-inside : (levels chutes at : ℕ) (p : Parsed) → NumberAfter at p → HeadAfter s levels chutes at (judged levels chutes at p)
   judged-inside levels chutes at (value k next rest) u = rw (u .left) (go (kindAllowed levels chutes k) refl)
     where
-      go : (b : Bool) → kindAllowed levels chutes k ≡ b → HeadAfter s levels chutes at (cond b (valued k (planNumber next (drop next s))) (wrong at))
+      go : (b : Bool) → kindAllowed levels chutes k ≡ b
+          → HeadAfter s levels chutes at (cond b (valued k (planNumber next (drop next s))) (wrong (placeOf (kindBreach at k))))
       go true e =
           valued-inside levels chutes at k next (planNumber next (drop next s)) (kind-known levels chutes k e) (u .past) (number-inside next (u .inside))
       go false e = tt

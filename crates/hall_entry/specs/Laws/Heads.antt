@@ -6,9 +6,11 @@ use Prim.Native.Nat.{ℕ, zero, suc, _+_, _≤_, _<_}
 use native.Mathlib.Omega.{arith}
 use lib.ListN.{length, drop}
 use borrow.Author.Tests.{ltb-true}
+use Rattle.answers.specs.Breaches.{placeOf}
 use Rattle.leb128.specs.Number.{maxNumber}
 use Rattle.hall_entry.specs.Limits.{maxChutes}
 use Rattle.hall_entry.specs.Entries.{chuteKind, hallKind, kindAllowed, Head, first, wrong}
+use Rattle.hall_entry.specs.Bytes.{kindBreach}
 use Rattle.hall_entry.specs.Answers.{headAnswer}
 use Rattle.hall_entry.specs.declared.EntryRead.the-variants.{Found, NotEntry}
 
@@ -27,6 +29,12 @@ pub kind-other : (levels chutes k : ℕ) → (k ≡ chuteKind → ⊥) → (k �
 kind-other levels chutes zero a b = absurd (a refl)
 kind-other levels chutes (suc zero) a b = absurd (b refl)
 kind-other levels chutes (suc (suc k)) a b = refl
+
+-- the place of an entry whose kind may not stand there is its first byte, whatever the breach
+pub kind-place : (at k : ℕ) → placeOf (kindBreach at k) ≡ at
+kind-place at zero = refl
+kind-place at (suc zero) = refl
+kind-place at (suc (suc k)) = refl
 
 module _ {A : Type 0} (s : List A) where
   -- an entry's kind and value were read from the place `at` of s on

@@ -7,27 +7,28 @@ use native.Mathlib.Omega.{arith}
 use lib.ListN.{length, drop, length-append}
 use lib.Dec.{ltb}
 use Rattle.answers.specs.Numbers.{inputTooLong}
+use Rattle.answers.specs.Breaches.{placeOf}
 use Rattle.leb128.specs.Number.{Parsed, value, bad}
 use Rattle.plan_read.specs.Limits.{maxPlan}
 use Rattle.plan_read.specs.Plan.{planNumber}
 use Rattle.hall_entry.specs.Limits.{maxChutes, levelsBelow}
 use Rattle.hall_entry.specs.Entries.{Entry, entry, chuteKind, kindAllowed, Head, first, wrong, Read, reached, breach, entriesOf}
-use Rattle.hall_entry.specs.Bytes.{valued, judged, byteHead, entryHead}
+use Rattle.hall_entry.specs.Bytes.{valued, kindBreach, judged, byteHead, entryHead}
 use Rattle.hall_entry.specs.Laws.Induction.{AllGood, reads-good}
 use Rattle.hall_entry.specs.Laws.Bytes.{NumberAfter, number-inside}
 use Rattle.hall_read.specs.Halls.{HallPlan, halls, refused, nothingAfter, withOuter, hallsOf}
 use Rattle.hall_lists.specs.Sequence.{entriesStart, consEntry, inSequence}
 
 -- an entry that may stand somewhere stands first where nothing limits it
-free-zero : (b : Bool) (h : Head ℕ) (at k v next : ℕ) (rest : List ℕ) → cond b h (wrong at) ≡ first k v next rest → h ≡ first k v next rest
-free-zero true h at k v next rest e = e
-free-zero false h at k v next rest e = cc
+free-zero : (b : Bool) (h : Head ℕ) (place k v next : ℕ) (rest : List ℕ) → cond b h (wrong place) ≡ first k v next rest → h ≡ first k v next rest
+free-zero true h place k v next rest e = e
+free-zero false h place k v next rest e = cc
 
-free-kind : (levels chutes at j : ℕ) (h : Head ℕ) (k v next : ℕ) (rest : List ℕ) → cond (kindAllowed levels chutes j) h (wrong at) ≡ first k v next rest
-    → cond (kindAllowed 1 0 j) h (wrong at) ≡ first k v next rest
-free-kind levels chutes at zero h k v next rest e = free-zero (ltb chutes maxChutes) h at k v next rest e
-free-kind levels chutes at (suc zero) h k v next rest e = free-zero (ltb 0 levels) h at k v next rest e
-free-kind levels chutes at (suc (suc j)) h k v next rest e = e
+free-kind : (levels chutes place j : ℕ) (h : Head ℕ) (k v next : ℕ) (rest : List ℕ)
+    → cond (kindAllowed levels chutes j) h (wrong place) ≡ first k v next rest → cond (kindAllowed 1 0 j) h (wrong place) ≡ first k v next rest
+free-kind levels chutes place zero h k v next rest e = free-zero (ltb chutes maxChutes) h place k v next rest e
+free-kind levels chutes place (suc zero) h k v next rest e = free-zero (ltb 0 levels) h place k v next rest e
+free-kind levels chutes place (suc (suc j)) h k v next rest e = e
 
 free-head : (levels chutes at : ℕ) (s : List ℕ) (k v next : ℕ) (rest : List ℕ) → byteHead levels chutes at s ≡ first k v next rest
     → entryHead at s ≡ first k v next rest
@@ -35,7 +36,7 @@ unfolding byteHead
 free-head levels chutes at s k v next rest e = go (planNumber at s) e
   where
     go : (p : Parsed) → judged levels chutes at p ≡ first k v next rest → judged 1 0 at p ≡ first k v next rest
-    go (value j n t) q = free-kind levels chutes at j (valued j (planNumber n t)) k v next rest q
+    go (value j n t) q = free-kind levels chutes (placeOf (kindBreach at j)) j (valued j (planNumber n t)) k v next rest q
     go (bad place) q = q
 
 -- what was read from s on is what stands there one after another

@@ -71,25 +71,41 @@ first-written w =
       room = omega arith;
     }
 
+write-answer-requires : tie.Need-write-answer-requires
+write-answer-requires c κs = search needs
+
+write-answer-requires-2 : tie.Need-write-answer-requires-2
+write-answer-requires-2 c κs = search needs
+
+write-answer-requires-3 : tie.Need-write-answer-requires-3
+write-answer-requires-3 c κs = search needs
+
+write-answer-requires-4 : tie.Need-write-answer-requires-4
+write-answer-requires-4 c κs = search needs
+
 returns : tie.Need-returns
-returns c = let a = c .before .before .before .before .args in long-buffer (a .outer) (now (a .kinds)) (now (a .values)) (now (a .out)) (c .if1 .taken)
+returns c =
+    let a = c .before .before .before .before .before .args in
+    rw (c .write-answer .ensures) (long-buffer (a .outer) (now (a .kinds)) (now (a .values)) (now (a .out)) (c .before .if1 .taken))
 
 hall-length-requires : tie.Need-hall-length-requires
 hall-length-requires c κs = search needs
 
 returns-2 : tie.Need-returns-2
 returns-2 c =
-    let p = c .before .before in
+    let p = c .before .before .before in
     let a = start (short p) .args in
-    refused (a .outer) (now (a .kinds)) (now (a .values)) (p .hall-length .result) (p .hall-length .ensures) (now (a .out)) (short p .if1 .left)
-    (c .if2 .taken)
+    rw (c .write-answer2 .ensures)
+    (refused (a .outer) (now (a .kinds)) (now (a .values)) (p .hall-length .result) (p .hall-length .ensures) (now (a .out)) (short p .if1 .left)
+    (c .before .if2 .taken))
 
 returns-3 : tie.Need-returns-3
 returns-3 c =
-    let e = c .before .before in
+    let e = c .before .before .before in
     let a = args-of e .args in
-    other-length (a .outer) (now (a .kinds)) (now (a .values)) (answered e .hall-length .result .length) (known e) (now (a .out))
-    (short (answered e) .if1 .left) (c .if3 .taken)
+    rw (c .write-answer3 .ensures)
+    (other-length (a .outer) (now (a .kinds)) (now (a .values)) (answered e .hall-length .result .length) (known e) (now (a .out))
+    (short (answered e) .if1 .left) (c .before .if3 .taken))
 
 cast-write-number : tie.Need-cast-write-number
 cast-write-number c = omega (arith, outer-fits (fitting (c .before)))
@@ -112,26 +128,31 @@ same-length c = search needs
 
 returns-4 : tie.Need-returns-4
 returns-4 c =
-    let r = c .before .before in
+    let r = c .before .before .before in
     let w = r .before .before .before .before in
     let e = fitting (outer-written w) in
     let a = args-of e .args in
     let n = first-written w in
-    all-written (a .outer) (now (a .kinds)) (now (a .values)) (answered e .hall-length .result .length) (known e) (now (a .out)) _ _
+    rw (c .write-answer4 .ensures)
+    (all-written (a .outer) (now (a .kinds)) (now (a .values)) (answered e .hall-length .result .length) (known e) (now (a .out)) _ _
     (outer-written w .if3 .left) (n .stores)
     (r .put-entries .ensures
-    ∙ ap (λ (m : ℕ). sets (w .write-number .last .0) m (writtenEntries (pairs (now (a .kinds)) (now (a .values))))) (n .place))
+    ∙ ap (λ (m : ℕ). sets (w .write-number .last .0) m (writtenEntries (pairs (now (a .kinds)) (now (a .values))))) (n .place)))
 
 pub write-halls-spec : {M : Type 1} → statement M
 write-halls-spec =
     tie.close
     (tie.spec
+    write-answer-requires
     returns
     hall-length-requires
+    write-answer-requires-2
     returns-2
+    write-answer-requires-3
     returns-3
     cast-write-number
     write-number-requires
     put-entries-requires
+    write-answer-requires-4
     same-length
     returns-4)

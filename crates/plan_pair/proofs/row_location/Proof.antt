@@ -4,7 +4,7 @@ use mathlib.Core.Path.{_≡_, _∙_}
 use denote.Ref.{now}
 use borrow.Author.Tests.{eq-eqb, ne-eqb}
 use Rattle.answers.specs.Numbers.{done}
-use Rattle.plan_pair.specs.Pair.{noLocation, locationFound, locationOf}
+use Rattle.plan_pair.specs.Pair.{locationFound, plansRefused, locationOf}
 use Rattle.plan_pair.proofs.Locations.{row-ordered, refused-is, found-is}
 use borrow.Author.Needs.{needs}
 use Rattle.plan_pair.proofs.row_location.Statement.{statement}
@@ -25,7 +25,8 @@ abbrev before-house : tie.Else2 → tie.After-smaller
 before-house e = e .before .before .before
 
 refused-by : (m : tie.After-smaller) → (m .smaller .result ≡ done → ⊥)
-    → let a = start (both m) .args in noLocation (m .smaller .result) ≡ locationOf (now (a .site)) (now (a .house)) (a .chute)
+    → let b = both m in let a = start b .args in
+    plansRefused (m .smaller .result) (b .before .row-of .result) (b .row-of2 .result) ≡ locationOf (now (a .site)) (now (a .house)) (a .chute)
 refused-by m =
     let b = both m in
     let a = start b .args in
@@ -56,11 +57,11 @@ plan-refusal-requires-2 c κs = search needs
 smaller-requires : tie.Need-smaller-requires
 smaller-requires c κs = search needs
 
-refused-requires : tie.Need-refused-requires
-refused-requires c κs = search needs
+plans-refused-requires : tie.Need-plans-refused-requires
+plans-refused-requires c κs = search needs
 
 returns : tie.Need-returns
-returns c = c .refused .ensures ∙ refused-by (c .before .before) (c .before .if1 .taken)
+returns c = c .plans-refused .ensures ∙ refused-by (c .before .before) (c .before .if1 .taken)
 
 located-requires : tie.Need-located-requires
 located-requires c κs =
@@ -82,13 +83,13 @@ returns-3 c =
     let e = c .before .before .before in
     c .located2 .ensures ∙ (rw (ne-eqb _ _ (e .if2 .left), eq-eqb _ _ (c .before .if3 .taken))) ∙ found-by (before-house e) (e .before .before .if1 .left)
 
-refused-requires-2 : tie.Need-refused-requires-2
-refused-requires-2 c κs = search needs
+refused-requires : tie.Need-refused-requires
+refused-requires c κs = search needs
 
 returns-4 : tie.Need-returns-4
 returns-4 c =
     let e = c .before .before .before in
-    c .refused2 .ensures ∙ (rw (ne-eqb _ _ (e .if2 .left), ne-eqb _ _ (c .before .if3 .left))) ∙ found-by (before-house e) (e .before .before .if1 .left)
+    c .refused .ensures ∙ (rw (ne-eqb _ _ (e .if2 .left), ne-eqb _ _ (c .before .if3 .left))) ∙ found-by (before-house e) (e .before .before .if1 .left)
 
 pub row-location-spec : {M : Type 1} → statement M
 row-location-spec =
@@ -99,11 +100,11 @@ row-location-spec =
     plan-refusal-requires
     plan-refusal-requires-2
     smaller-requires
-    refused-requires
+    plans-refused-requires
     returns
     located-requires
     returns-2
     located-requires-2
     returns-3
-    refused-requires-2
+    refused-requires
     returns-4)

@@ -50,8 +50,8 @@ enum-known-read c = search needs
 enum-told : tie.Need-enum-told Inv-loop μ-loop
 enum-told c = search needs
 
-place-of-requires : tie.Need-place-of-requires Inv-loop μ-loop
-place-of-requires c κs = search needs
+failed-at-requires : tie.Need-failed-at-requires Inv-loop μ-loop
+failed-at-requires c κs = search needs
 
 malformed-requires : tie.Need-malformed-requires Inv-loop μ-loop
 malformed-requires c κs = search needs
@@ -63,7 +63,7 @@ returns c =
     let l = turn r .loop in
     let a = start (turn r) .args in
     let other = m .enum-told .given in
-    c .malformed .ensures ∙ ap (Refused malformedPlan) (c .before .place-of .ensures ∙ ap (λ (q : RowRead). rowValues q .place) (other .1))
+    c .malformed .ensures ∙ ap (Refused malformedPlan) (c .before .failed-at .ensures ∙ ap (λ (q : RowRead). rowValues q .place) (other .1))
     ∙ sym (keeping-bad (a .chute) (l .i) (l .at) (a .count) (l .kept) (now (a .plan)) (other .0 .0) (r .before .loop-test .taken)
     (sym (r .row-at .ensures .answer) ∙ other .1))
     ∙ l .inv .1
@@ -148,7 +148,7 @@ read-rows-spec =
     row-at-requires
     enum-known-read
     enum-told
-    place-of-requires
+    failed-at-requires
     malformed-requires
     returns
     add-i

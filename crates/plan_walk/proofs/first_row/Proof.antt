@@ -2,7 +2,7 @@
 -- Each arm of the match is one of the cases.
 use mathlib.Core.Path.{sym, ap, _∙_}
 use Rattle.plan_read.specs.Plan.{planNumber}
-use Rattle.plan_walk.proofs.Walking.{placePast, place-past}
+use Rattle.plan_walk.proofs.Walking.{pastRead, past-read}
 use borrow.Author.Needs.{needs}
 use Rattle.plan_walk.proofs.first_row.Statement.{statement}
 use Rattle.plan_walk.proofs.first_row.Tie as tie
@@ -19,11 +19,11 @@ enum-told c = search needs
 returns : tie.Need-returns
 returns c =
     let m = c .before in
-    sym (ap placePast (m .next .given .1)) ∙ ap placePast (m .before .before .number-at .ensures .answer) ∙ place-past (planNumber 0 _)
+    sym (ap pastRead (m .next .given .1)) ∙ ap pastRead (m .before .before .number-at .ensures .answer) ∙ past-read (planNumber 0 _)
 
 returns-2 : tie.Need-returns-2
 returns-2 c =
-    sym (ap placePast (c .enum-told .given .1)) ∙ ap placePast (c .before .before .number-at .ensures .answer) ∙ place-past (planNumber 0 _)
+    sym (ap pastRead (c .enum-told .given .1)) ∙ ap pastRead (c .before .before .number-at .ensures .answer) ∙ past-read (planNumber 0 _)
 
 pub first-row-spec : {M : Type 1} → statement M
 first-row-spec =

@@ -1,4 +1,4 @@
--- A refused plan has its number and no place. Else the first row stands after the number of rows.
+-- A walk over a refused plan has its number and place and stands at 0. Else the first row stands after the number of rows.
 -- Each return is one case of the definition.
 use Rattle.plan_walk.proofs.Walking.{start-refused, start-done}
 use borrow.Author.Needs.{needs}

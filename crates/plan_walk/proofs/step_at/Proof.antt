@@ -1,5 +1,5 @@
--- On a refused plan the answer is its number. Else the answer is set out by the cases of what the row reader finds.
--- Anything but a row answers 10, and the place stays.
+-- On a refused plan the answer is its number and place. Else the answer is set out by the cases of what the row reader finds.
+-- Anything but a row answers 10, and the walk stays where it stands.
 use mathlib.Core.Path.{_≡_, sym, ap, _∙_}
 use denote.Ref.{now}
 use Rattle.plan_walk.specs.Walk.{walkStep, asked}

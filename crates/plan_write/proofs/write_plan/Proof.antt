@@ -59,16 +59,28 @@ count-written w =
 plan-length-requires : tie.Need-plan-length-requires
 plan-length-requires c κs = search needs
 
+write-answer-requires : tie.Need-write-answer-requires
+write-answer-requires c κs = search needs
+
+write-answer-requires-2 : tie.Need-write-answer-requires-2
+write-answer-requires-2 c κs = search needs
+
+write-answer-requires-3 : tie.Need-write-answer-requires-3
+write-answer-requires-3 c κs = search needs
+
 returns : tie.Need-returns
 returns c =
-    let p = c .before .before in
-    not-allowed (now (start p .args .rows)) (now (start p .args .out)) (p .plan-length .result) (p .plan-length .ensures) (c .if1 .taken)
+    let p = c .before .before .before in
+    rw (c .write-answer .ensures)
+    (not-allowed (now (start p .args .rows)) (now (start p .args .out)) (p .plan-length .result) (p .plan-length .ensures) (c .before .if1 .taken))
 
 returns-2 : tie.Need-returns-2
 returns-2 c =
-    let e = c .before .before in
+    let e = c .before .before .before in
     let p = asked e in
-    other-length (now (start p .args .rows)) (p .plan-length .result) (p .plan-length .ensures) (e .if1 .left) (now (start p .args .out)) (c .if2 .taken)
+    rw (c .write-answer2 .ensures)
+    (other-length (now (start p .args .rows)) (p .plan-length .result) (p .plan-length .ensures) (e .if1 .left) (now (start p .args .out))
+    (c .before .if2 .taken))
 
 cast-write-number : tie.Need-cast-write-number
 cast-write-number c =
@@ -93,25 +105,29 @@ same-length c = search needs
 
 returns-3 : tie.Need-returns-3
 returns-3 c =
-    let r = c .before .before in
+    let r = c .before .before .before in
     let w = r .before .before .before .before in
     let e = tested (counted w) in
     let p = asked e in
     let a = start p .args in
     let n = count-written w in
-    all-written (now (a .rows)) (p .plan-length .result) (p .plan-length .ensures) (e .if1 .left) (now (a .out)) _ _
+    rw (c .write-answer3 .ensures)
+    (all-written (now (a .rows)) (p .plan-length .result) (p .plan-length .ensures) (e .if1 .left) (now (a .out)) _ _
     (omega (arith, counted w .if2 .left)) (n .stores)
-    (r .put-rows .ensures ∙ ap (λ (m : ℕ). sets (w .write-number .last .0) m (writtenRows (now (a .rows)))) (n .place))
+    (r .put-rows .ensures ∙ ap (λ (m : ℕ). sets (w .write-number .last .0) m (writtenRows (now (a .rows)))) (n .place)))
 
 pub write-plan-spec : {M : Type 1} → statement M
 write-plan-spec =
     tie.close
     (tie.spec
     plan-length-requires
+    write-answer-requires
     returns
+    write-answer-requires-2
     returns-2
     cast-write-number
     write-number-requires
     put-rows-requires
+    write-answer-requires-3
     same-length
     returns-3)

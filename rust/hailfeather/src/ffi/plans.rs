@@ -4,12 +4,14 @@ use std::mem::{offset_of, size_of};
 
 #[repr(C)]
 pub struct hf_rows {
+    pub place: usize,
     pub rows: u32,
     pub number: u8,
 }
 
 #[repr(C)]
 pub struct hf_destination {
+    pub place: usize,
     pub destination: u32,
     pub number: u8,
 }
@@ -18,13 +20,22 @@ pub struct hf_destination {
 pub struct hf_row {
     pub start: usize,
     pub length: usize,
+    pub place: usize,
     pub source: u8,
+    pub malformed: u8,
     pub number: u8,
 }
 
 #[repr(C)]
 pub struct hf_length {
     pub length: usize,
+    pub place: usize,
+    pub number: u8,
+}
+
+#[repr(C)]
+pub struct hf_written {
+    pub place: usize,
     pub number: u8,
 }
 
@@ -32,12 +43,14 @@ pub struct hf_length {
 #[repr(C)]
 pub struct hf_cursor {
     pub at: usize,
+    pub place: usize,
     pub number: u8,
 }
 
 #[repr(C)]
 pub struct hf_walk {
     pub next: usize,
+    pub place: usize,
     pub destination: u32,
     pub number: u8,
 }
@@ -45,6 +58,7 @@ pub struct hf_walk {
 #[repr(C)]
 pub struct hf_halls {
     pub entries: usize,
+    pub place: usize,
     pub outer: u32,
     pub chutes: u32,
     pub number: u8,
@@ -55,7 +69,7 @@ extern "C" {
     pub fn hf_plan_destination(plan: *const u8, plan_length: usize, chute: u64) -> hf_destination;
     pub fn hf_plan_row(site: *const u8, site_length: usize, house: *const u8, house_length: usize, chute: u64) -> hf_row;
     pub fn hf_plan_length(rows: *const u32, rows_length: usize) -> hf_length;
-    pub fn hf_plan_write(rows: *const u32, rows_length: usize, out: *mut u8, out_length: usize) -> u8;
+    pub fn hf_plan_write(rows: *const u32, rows_length: usize, out: *mut u8, out_length: usize) -> hf_written;
     pub fn hf_plan_start(plan: *const u8, plan_length: usize) -> hf_cursor;
     pub fn hf_plan_step(plan: *const u8, plan_length: usize, walk: hf_cursor) -> hf_walk;
 
@@ -78,18 +92,20 @@ extern "C" {
         values_length: usize,
         out: *mut u8,
         out_length: usize,
-    ) -> u8;
+    ) -> hf_written;
 }
 
-// What a C compiler for x86-64 makes of these structs: size, and the place of the last field.
+// What a C compiler for x86-64 makes of these structs: size, and the place of each field but the first.
 const _: () = {
-    assert!(size_of::<hf_rows>() == 8 && offset_of!(hf_rows, number) == 4);
-    assert!(size_of::<hf_destination>() == 8 && offset_of!(hf_destination, number) == 4);
-    assert!(size_of::<hf_row>() == 24 && offset_of!(hf_row, source) == 16 && offset_of!(hf_row, number) == 17);
-    assert!(size_of::<hf_length>() == 16 && offset_of!(hf_length, number) == 8);
-    assert!(size_of::<hf_cursor>() == 16 && offset_of!(hf_cursor, number) == 8);
-    assert!(size_of::<hf_walk>() == 16 && offset_of!(hf_walk, destination) == 8 && offset_of!(hf_walk, number) == 12);
-    assert!(
-        size_of::<hf_halls>() == 24 && offset_of!(hf_halls, outer) == 8 && offset_of!(hf_halls, chutes) == 12 && offset_of!(hf_halls, number) == 16
-    );
+    assert!(size_of::<hf_rows>() == 16 && offset_of!(hf_rows, rows) == 8 && offset_of!(hf_rows, number) == 12);
+    assert!(size_of::<hf_destination>() == 16 && offset_of!(hf_destination, destination) == 8 && offset_of!(hf_destination, number) == 12);
+    assert!(size_of::<hf_row>() == 32 && offset_of!(hf_row, length) == 8 && offset_of!(hf_row, place) == 16);
+    assert!(offset_of!(hf_row, source) == 24 && offset_of!(hf_row, malformed) == 25 && offset_of!(hf_row, number) == 26);
+    assert!(size_of::<hf_length>() == 24 && offset_of!(hf_length, place) == 8 && offset_of!(hf_length, number) == 16);
+    assert!(size_of::<hf_written>() == 16 && offset_of!(hf_written, place) == 0 && offset_of!(hf_written, number) == 8);
+    assert!(size_of::<hf_cursor>() == 24 && offset_of!(hf_cursor, place) == 8 && offset_of!(hf_cursor, number) == 16);
+    assert!(size_of::<hf_walk>() == 24 && offset_of!(hf_walk, place) == 8);
+    assert!(offset_of!(hf_walk, destination) == 16 && offset_of!(hf_walk, number) == 20);
+    assert!(size_of::<hf_halls>() == 32 && offset_of!(hf_halls, place) == 8 && offset_of!(hf_halls, outer) == 16);
+    assert!(offset_of!(hf_halls, chutes) == 20 && offset_of!(hf_halls, number) == 24);
 };

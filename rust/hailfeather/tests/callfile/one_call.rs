@@ -17,6 +17,11 @@ fn shown<T: Display>(answer: Result<T, Refusal>, nothing: &str) -> String {
     answer.map_or_else(|refusal| format!("{} {nothing}", refusal.number()), |value| format!("0 {value}"))
 }
 
+/// The place of a refusal as the file shows it: 0 where there is none, as in every other answer on plans.
+pub fn place_of<T>(answer: &Result<T, Refusal>) -> usize {
+    answer.as_ref().err().and_then(|refusal| refusal.place()).unwrap_or(0)
+}
+
 /// The number and the count of runs.
 pub fn runs_of(answer: Result<Runs, Refusal>) -> String {
     shown(answer.map(|runs| runs.0), "0")
@@ -34,10 +39,16 @@ pub fn same(expected: &[&str], found: String) -> Result<(), String> {
     }
 }
 
-/// Compares an answer of a number and a value.
+/// Compares an answer on plans of a number, a value and a place.
 pub fn value<T: Display>(found: Result<T, Refusal>, nothing: &str, answer: &[&str]) -> Compared {
-    let refusal = found.as_ref().err().copied();
-    same(answer, shown(found, nothing)).map(|()| refusal)
+    let (refusal, place) = (found.as_ref().err().copied(), place_of(&found));
+    same(answer, format!("{} {place}", shown(found, nothing))).map(|()| refusal)
+}
+
+/// Compares an answer on plans of a number and a place.
+pub fn number_and_place<T>(found: &Result<T, Refusal>, answer: [&str; 2]) -> Compared {
+    same(&answer, format!("{} {}", number_of(found), place_of(found)))?;
+    Ok(found.as_ref().err().copied())
 }
 
 pub fn permuted([before]: [&str; 1], [after]: [&str; 1]) -> Compared {
@@ -74,28 +85,39 @@ pub fn opened([key, iv, ciphertext, label, length, tag]: [&str; 6], [refusal, ru
     Ok(found.err())
 }
 
-/// The row also has to be a part of the plan that it came from, at the place that it says.
+/// The plan that the file means by 1 or 2, and by 0 neither.
+fn source_of(plan: Option<Source>) -> u8 {
+    match plan {
+        None => 0,
+        Some(Source::Site) => 1,
+        Some(Source::House) => 2,
+    }
+}
+
+/// The row also has to be a part of the plan that it came from, where it says.
 pub fn row([site, house, chute]: [&str; 3], answer: &[&str]) -> Compared {
     let (site, house) = (bytes(site), bytes(house));
-    let place = plan::row(&site, &house, number(chute)).map(|row| {
-        let (source, plan) = if row.source == Source::Site { (1, &site) } else { (2, &house) };
+    let found = plan::row(&site, &house, number(chute));
+    let malformed = source_of(found.as_ref().err().and_then(|refusal| refusal.malformed()));
+    let fields = found.map(|row| {
+        let plan = if row.source == Source::Site { &site } else { &house };
         assert!(
             std::ptr::eq(row.bytes, &plan[row.start..row.start + row.bytes.len()]),
             "the row is no part of its plan"
         );
-        format!("{source} {} {}", row.start, row.bytes.len())
+        format!("{} {} {} {malformed}", source_of(Some(row.source)), row.start, row.bytes.len())
     });
-    value(place, "0 0 0", answer)
+    value(fields, &format!("0 0 0 {malformed}"), answer)
 }
 
 /// Rows that `write` accepts also have to be what `to_vec` makes of them.
-pub fn written([rows, length]: [&str; 2], [refusal, output]: [&str; 2]) -> Compared {
+pub fn written([rows, length]: [&str; 2], [refusal, output, place]: [&str; 3]) -> Compared {
     let (rows, mut out) = (list(rows), Lent::new(number(length)));
     let found = plan::write(&rows, out.middle());
-    same(&[refusal], number_of(&found))?;
+    let compared = number_and_place(&found, [refusal, place])?;
     if found.is_ok() {
         assert_eq!(plan::to_vec(&rows).as_deref(), Ok(&*out.middle()));
     }
     out.check(found.is_err(), output)?;
-    Ok(found.err())
+    Ok(compared)
 }

@@ -7,7 +7,7 @@ use hailfeather::{Refusal, Session};
 
 use super::bytes::{bytes, number};
 use super::lent::Lent;
-use super::one_call::{number_of, same, Compared};
+use super::one_call::{number_and_place, number_of, same, Compared};
 
 type Start = fn(&[u8], &[u8]) -> Result<Session, Refusal>;
 
@@ -83,22 +83,21 @@ pub struct Walks {
 }
 
 impl Walks {
-    /// The plan is kept for good, since the walk borrows it. The walk's place is its own.
-    pub fn begin(&mut self, [plan]: [&str; 1], [number, _place]: [&str; 2]) -> Compared {
+    /// The plan is kept for good, since the walk borrows it. Where the walk stands it keeps to itself.
+    pub fn begin(&mut self, [plan]: [&str; 1], [number, _at, place]: [&str; 3]) -> Compared {
         let walk = self.last.insert(Walk::new(bytes(plan).leak()));
         if walk.as_ref().is_ok_and(|walk| walk.len() != walk.clone().count()) {
             return Err("the walk's length is not the number of its rows".into());
         }
-        same(&[number], number_of(walk))?;
-        Ok(walk.as_ref().err().copied())
+        number_and_place(walk, [number, place])
     }
 
     /// The package has no walk of a refused plan, so there the answer is made of the plan's refusal.
-    pub fn step(&mut self, [number, destination, _place]: [&str; 3]) -> Compared {
+    pub fn step(&mut self, [number, destination, _at, place]: [&str; 4]) -> Compared {
         let found = match self.last.as_mut().ok_or("no plan_start stands before")? {
-            Ok(walk) => walk.next().map_or("10 0".into(), |destination| format!("0 {destination}")),
-            Err(refusal) => format!("{} 0", refusal.number()),
+            Ok(walk) => walk.next().map_or("10 0 0".into(), |destination| format!("0 {destination} 0")),
+            Err(refusal) => format!("{} 0 {}", refusal.number(), refusal.place().unwrap_or(0)),
         };
-        same(&[number, destination], found).map(|()| None)
+        same(&[number, destination, place], found).map(|()| None)
     }
 }
