@@ -14,7 +14,7 @@ use Rattle.plan_read.specs.declared.RowRead.the-variants.{Found, NotRow}
 use Rattle.plan_walk.specs.declared.Cursor.{Cursor}
 use Rattle.plan_walk.specs.declared.WalkAnswer.{WalkAnswer}
 
--- the place after a number, 0 where there is none
+-- where a number ends, 0 where there is none
 abbrev pub pastNumber : Parsed → ℕ
 pastNumber (value v next rest) = next
 pastNumber (bad place) = 0
