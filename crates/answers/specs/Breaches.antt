@@ -7,7 +7,7 @@ pub data Breach : Type 0 where
   missingByte : ℕ → Breach
   -- the last byte that a number may have, its third, promises another
   anotherGroup : ℕ → Breach
-  -- a number's last group is empty, where numbers in more groups than they need are not read
+  -- a number is in more groups than it needs: its last group, which is empty
   emptyGroup : ℕ → Breach
   -- the number of rows is above the limit
   tooManyRows : Breach

@@ -9,7 +9,6 @@ use Rattle.leb128.specs.Answers.{numberAnswer}
 use Rattle.leb128.specs.Laws.Reading.{Rest, groups-rest}
 use Rattle.leb128.specs.declared.Number.{Number}
 use Rattle.leb128.specs.declared.Number.the-variants.{Value, Bad}
-use Rattle.plan_read.specs.Limits.{readsPadded}
 use Rattle.plan_read.specs.Plan.{planNumber}
 use Rattle.hall_entry.specs.Entries.{kindAllowed, Head, first, wrong}
 use Rattle.hall_entry.specs.Bytes.{valued, judged, byteHead}
@@ -51,7 +50,7 @@ module _ (s : List ℕ) (levels chutes at : ℕ) where
 
   kind-answer : kindAnswer (numberAnswer (planNumber at (drop at s))) ≡ headAnswer (byteHead levels chutes at (drop at s))
   unfolding byteHead
-  kind-answer = kind-judged (planNumber at (drop at s)) (groups-rest readsPadded true 2 at s)
+  kind-answer = kind-judged (planNumber at (drop at s)) (groups-rest true 2 at s)
 
   -- the same, of what the code finds in the number r that it has read
   pub as-read : (r x : Number) → r ≡ numberAnswer (planNumber at (drop at s)) → r ≡ x → kindAnswer x ≡ headAnswer (byteHead levels chutes at (drop at s))

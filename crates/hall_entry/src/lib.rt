@@ -42,7 +42,7 @@ pub fn kind_allowed(levels: u32, chutes: u32, kind: u32) -> bool
 fn entry_of_kind(plan: &[u8], kind: u8, at: usize) -> EntryRead
     ensures { λ r. ⌜ r ≡ headAnswer (valued kind (planNumber at (drop at (now (plan .entry))))) ⌝ }
 {
-    match leb128::number_at(plan, at, plan_read::READS_PADDED) {
+    match leb128::number_at(plan, at) {
         Number::Value { value, next } => EntryRead::Found { kind, value, next },
         Number::Bad(place) => EntryRead::NotEntry(place), // the value cannot be read
     }
@@ -52,7 +52,7 @@ fn entry_of_kind(plan: &[u8], kind: u8, at: usize) -> EntryRead
 pub fn head_at(plan: &[u8], levels: u32, chutes: u32, at: usize) -> EntryRead
     ensures { λ r. ⌜ ReadsEntry (byteHead levels chutes at (drop at (now (plan .entry)))) r ⌝ }
 {
-    match leb128::number_at(plan, at, plan_read::READS_PADDED) {
+    match leb128::number_at(plan, at) {
         Number::Value { value, next } => {
             if kind_allowed(levels, chutes, value) {
                 return entry_of_kind(plan, (value % 256) as u8, next);
@@ -67,7 +67,7 @@ pub fn head_at(plan: &[u8], levels: u32, chutes: u32, at: usize) -> EntryRead
 pub fn entry_at(plan: &[u8], at: usize) -> EntryRead
     ensures { λ r. ⌜ ReadsEntry (entryHead at (drop at (now (plan .entry)))) r ⌝ }
 {
-    match leb128::number_at(plan, at, plan_read::READS_PADDED) {
+    match leb128::number_at(plan, at) {
         Number::Value { value, next } => {
             if kind_allowed(1, 0, value) {
                 let kind = (value % 256) as u8;

@@ -13,7 +13,7 @@ use leb128::Number;
 fn entries_start(plan: &[u8]) -> usize
     ensures { λ r. ⌜ r ≡ entriesStart (planNumber 0 (drop 0 (now (plan .entry)))) ⌝ }
 {
-    match leb128::number_at(plan, 0, plan_read::READS_PADDED) {
+    match leb128::number_at(plan, 0) {
         Number::Value { value: _, next } => next,
         Number::Bad(_) => 0,
     }

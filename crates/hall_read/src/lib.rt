@@ -77,7 +77,7 @@ pub fn read_whole(plan: &[u8], chute: u64) -> HallRead
             place: answers::NO_PLACE,
         };
     }
-    match leb128::number_at(plan, 0, plan_read::READS_PADDED) {
+    match leb128::number_at(plan, 0) {
         Number::Value { value, next } => {
             let from = Progress {
                 at: next,

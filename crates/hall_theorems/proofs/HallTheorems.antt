@@ -10,7 +10,7 @@ use borrow.Author.Tests.{eq-eqb}
 use Rattle.answers.specs.Numbers.{done, inputTooLong}
 use Rattle.leb128.specs.Number.{Parsed, value, bad, maxNumber}
 use Rattle.leb128.specs.Laws.Reading.{Used, groups-used, limit-three}
-use Rattle.plan_read.specs.Limits.{maxPlan, readsPadded}
+use Rattle.plan_read.specs.Limits.{maxPlan}
 use Rattle.plan_read.specs.Plan.{planNumber}
 use Rattle.plan.specs.Answers.{lookupOf, lookupIn}
 use Rattle.plan_length.specs.Length.{lengthOf}

@@ -10,7 +10,7 @@ use Rattle.answers.specs.Numbers.{done, inputTooLong}
 use Rattle.answers.specs.Breaches.{placeOf}
 use Rattle.leb128.specs.Number.{Parsed, value, bad, groups}
 use Rattle.plan_read.specs.Limits.{maxPlan, maxRows}
-use Rattle.plan_read.specs.Plan.{Plan, rows, refused, planNumber, row, malformed, consRow, afterNumber, rowsFrom, planOf, planAnswer}
+use Rattle.plan_read.specs.Plan.{Plan, rows, refused, planNumber, row, malformed, consRow, afterNumber, rowsBy, rowsFrom, planBy, planOf, planAnswer}
 use Rattle.plan_read.specs.Laws.Refusals.{Numbered, plan-numbered}
 use Rattle.plan_read.specs.declared.Row.{Row}
 use Rattle.plan.specs.Answers.{summary, summaryOf}
@@ -53,7 +53,7 @@ record RowsSkipped (n : ℕ) (left : Parsed) (l : List Row) : Type 0 where
   same : length l ≡ n
 
 rows-skipped : (n at : ℕ) (s : List ℕ) (l : List Row) → rowsFrom n at s ≡ rows l → RowsSkipped n (skip n at s) l
-unfolding rowsFrom skip
+unfolding rowsBy skip
 rows-skipped zero at [] l e = let z : [] ≡ l = cc in record { end = at; is = refl; same = sym (ap length z) }
 rows-skipped zero at (b ∷ s) l e = let z : _≡_ {A = ℕ} 0 1 = cc in absurd (omega arith)
 rows-skipped (suc n) at s l e = go (planNumber at s) e
@@ -152,7 +152,7 @@ module _ (s : List ℕ) (l : List Row) (outer : ℕ) (m : List Entry) where
   of-entries n next rest e (breach place) g q = let z : _≡_ {A = ℕ} 0 1 = cc in absurd (omega arith)
 
   both : planOf s ≡ rows l → hallsOf s ≡ halls outer m → (length l ≡ 0) × (outer ≡ 0)
-  unfolding planOf hallsOf
+  unfolding planBy hallsOf
   both e q = go (ltb maxPlan (length s)) (planNumber 0 s) e q
     where
       pick : (n next : ℕ) (rest : List ℕ) (t : Bool) → cond t (rowsFrom n next rest) (malformed 0) ≡ rows l

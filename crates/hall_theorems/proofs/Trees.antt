@@ -11,7 +11,6 @@ use borrow.Author.Tests.{ltb-true}
 use Rattle.answers.specs.Breaches.{placeOf}
 use Rattle.leb128.specs.Number.{Parsed, value, bad, maxNumber}
 use Rattle.leb128.specs.Laws.Reading.{Used, groups-used, limit-three}
-use Rattle.plan_read.specs.Limits.{readsPadded}
 use Rattle.plan_read.specs.Plan.{planNumber}
 use Rattle.hall_entry.specs.Limits.{maxChutes, maxLevels, levelsBelow}
 use Rattle.hall_entry.specs.Entries.{Entry, entry, chuteKind, hallKind, destinations, kindAllowed, Head, first, wrong, entriesOf}
@@ -22,13 +21,13 @@ use Rattle.hall_read.specs.Laws.Kept.{destinations-append}
 use Rattle.hall_theorems.specs.Tree.{Hall, none, chute, inner, count, listed, destinationsOf, levelsOf, NumbersFit}
 
 -- what was read first: a kind that may stand there, and a value that three groups hold
-number-small : (at : ℕ) (s : List ℕ) (v next : ℕ) (rest : List ℕ) (p : Parsed) → Used readsPadded true 2 at s p → p ≡ value v next rest → v ≤ maxNumber
+number-small : (at : ℕ) (s : List ℕ) (v next : ℕ) (rest : List ℕ) (p : Parsed) → Used true 2 at s p → p ≡ value v next rest → v ≤ maxNumber
 number-small at s v next rest (value w n t) u e = let q : w ≡ v = cc in omega (arith, limit-three, u .below)
 number-small at s v next rest (bad place) u e = let z : _≡_ {A = ℕ} 0 1 = cc in absurd (omega arith)
 
 value-small : (k v mid next : ℕ) (t u : List ℕ) (p : Parsed) → planNumber mid t ≡ p → valued k p ≡ first k v next u → v ≤ maxNumber
 value-small k v mid next t u (value w n x) e q =
-    let s : w ≤ maxNumber = number-small mid t w n x (planNumber mid t) (groups-used readsPadded true 2 mid t) e in
+    let s : w ≤ maxNumber = number-small mid t w n x (planNumber mid t) (groups-used true 2 mid t) e in
     let z : w ≡ v = cc in
     omega arith
 value-small k v mid next t u (bad place) e q = let z : _≡_ {A = ℕ} 0 1 = cc in absurd (omega arith)
@@ -46,7 +45,7 @@ first-known levels chutes at s k v next rest e = go (planNumber at s) e
         of-value (value w n x) a b =
             let zk : j ≡ k = cc in
             let zv : w ≡ v = cc in
-            let small : w ≤ maxNumber = number-small mid t w n x (planNumber mid t) (groups-used readsPadded true 2 mid t) a in
+            let small : w ≤ maxNumber = number-small mid t w n x (planNumber mid t) (groups-used true 2 mid t) a in
             (rw zk at (kind-known levels chutes j h), omega arith)
         of-value (bad place) a b = let z : _≡_ {A = ℕ} 0 1 = cc in absurd (omega arith)
     pick j mid t false h q = let z : _≡_ {A = ℕ} 0 1 = cc in absurd (omega arith)

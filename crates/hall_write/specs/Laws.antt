@@ -9,7 +9,7 @@ use borrow.Author.Tests.{le-ltb, ne-eqb}
 use Rattle.leb128.specs.Number.{maxNumber}
 use Rattle.leb128_write.specs.Written.{writtenNumber}
 use Rattle.leb128_write.specs.Laws.{number-read}
-use Rattle.plan_read.specs.Limits.{maxPlan, readsPadded}
+use Rattle.plan_read.specs.Limits.{maxPlan}
 use Rattle.hall_entry.specs.Limits.{levelsBelow}
 use Rattle.hall_entry.specs.Entries.{Entry, entry, chuteKind, destinations, first, reached, entriesWith, innerOf, entriesOf}
 use Rattle.hall_entry.specs.Bytes.{byteHead}
@@ -33,9 +33,9 @@ module _ (levels chutes at k v mid : ℕ) (s t : List Entry) (e : listHead level
       let small : k ≤ maxNumber = omega (arith, kind-known levels chutes k (h .allowed) .small) in
       rw (
         h .is,
-        number-read b k small readsPadded (writtenNumber v ++ writtenEntries t),
+        number-read b k small (writtenNumber v ++ writtenEntries t),
         h .allowed,
-        number-read (b + length (writtenNumber k)) v (h .small) readsPadded (writtenEntries t),
+        number-read (b + length (writtenNumber k)) v (h .small) (writtenEntries t),
       )
 
 -- the n entries l that are read from a list s, with `rest` left, are read from its bytes, with the bytes of `rest` left
@@ -77,4 +77,4 @@ halls-back outer l small ok short =
     let w = read-whole levelsBelow outer 0 0 l ok in
     let same : ReadAlike levelsBelow outer 0 0 l l (w .next) [] = rw (w .is) at (same-read levelsBelow outer 0 0 l) in
     let a = same (0 + length (writtenNumber outer)) in
-    rw (le-ltb _ _ short, number-read 0 outer small readsPadded (writtenEntries l), a .is)
+    rw (le-ltb _ _ short, number-read 0 outer small (writtenEntries l), a .is)

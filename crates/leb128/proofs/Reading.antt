@@ -24,27 +24,27 @@ here : (at : ℕ) (s : List ℕ) → at < length s → drop at s ≡ getD s at 0
 here at s h = rw (add-one, drop-cons s at 0)
 
 -- the groups from a place on
-module _ (padded empty : Bool) (more at group : ℕ) (s : List ℕ) where
+module _ (isFirst : Bool) (more at group : ℕ) (s : List ℕ) where
   abbrev toCome : Parsed
-  toCome = groups padded empty more at (drop at s)
+  toCome = groups isFirst more at (drop at s)
 
   pub group-end : length s ≤ at → bad at ≡ toCome
   unfolding groups
   group-end h = rw drop-of-length-le
 
   module _ (h : at < length s) (e : group ≡ getD s at 0) where
-    ends : group < 128 → lastGroup empty group at (drop (at + 1) s) ≡ toCome
+    ends : group < 128 → lastGroup isFirst group at (drop (at + 1) s) ≡ toCome
     unfolding groups
     ends l = go more
       where
-        go : (m : ℕ) → lastGroup empty group at (drop (at + 1) s) ≡ groups padded empty m at (drop at s)
+        go : (m : ℕ) → lastGroup isFirst group at (drop (at + 1) s) ≡ groups isFirst m at (drop at s)
         go zero = rw (here at s h, ← e, lt-ltb _ _ l)
         go (suc m) = rw (here at s h, ← e, lt-ltb _ _ l)
 
-    pub group-last : group < 128 → (empty || ltb 0 group) ≡ true → value group (at + 1) (drop (at + 1) s) ≡ toCome
+    pub group-last : group < 128 → (isFirst || ltb 0 group) ≡ true → value group (at + 1) (drop (at + 1) s) ≡ toCome
     group-last l ok = sym (sym (ends l) ∙ rw ok)
 
-    pub group-empty : group < 128 → (empty || ltb 0 group) ≡ false → bad at ≡ toCome
+    pub group-empty : group < 128 → (isFirst || ltb 0 group) ≡ false → bad at ≡ toCome
     group-empty l over = sym (sym (ends l) ∙ rw over)
 
     pub group-over : 128 ≤ group → more ≡ 0 → bad at ≡ toCome
@@ -52,6 +52,6 @@ module _ (padded empty : Bool) (more at group : ℕ) (s : List ℕ) where
     group-over l z = rw (z, here at s h, ← e, le-ltb _ _ l)
 
     pub group-more : 128 ≤ group
-        → nextGroup (group % 128) (groups padded padded more (at + 1) (drop (at + 1) s)) ≡ groups padded empty (suc more) at (drop at s)
+        → nextGroup (group % 128) (groups false more (at + 1) (drop (at + 1) s)) ≡ groups isFirst (suc more) at (drop at s)
     unfolding groups
     group-more l = rw (here at s h, ← e, le-ltb _ _ l)

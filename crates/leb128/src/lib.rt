@@ -1,7 +1,6 @@
 // One seven-bit number (LEB128; docs/RULES.md, 'Chute plan'), read at a place.
 ghost use mathlib.Core.Path.{_≡_};
-ghost use mathlib.Core.Bool.{_||_};
-ghost use lib.Dec.{ltb};
+ghost use mathlib.Core.Bool.{true, false};
 ghost use lib.ListN.{drop};
 ghost use Prim.Native.Nat.{_%_};
 ghost use Rattle.leb128.specs.Number.{number, nextGroup, groups};
@@ -22,60 +21,50 @@ fn wide(x: u8) -> u32
     x as u32
 }
 
-// Whether a number may end with this group after others: one of 0 is more than it needs, unless padded numbers are read.
-fn may_end(padded: bool, group: u32) -> bool
-    ensures { λ r. ⌜ r ≡ (padded || ltb 0 group) ⌝ }
-{
-    if padded {
-        return true;
-    }
-    0 < group
-}
-
 // The number whose first two groups are given, by the group at a place.
-fn third_at(bytes: &[u8], at: usize, padded: bool, first: u32, second: u32) -> Number
-    ensures { λ r. ⌜ ReadsNumber (nextGroup (first % 128) (nextGroup (second % 128) (groups padded padded 0 at (drop at (now (bytes .entry)))))) r ⌝ }
+fn third_at(bytes: &[u8], at: usize, first: u32, second: u32) -> Number
+    ensures { λ r. ⌜ ReadsNumber (nextGroup (first % 128) (nextGroup (second % 128) (groups false 0 at (drop at (now (bytes .entry)))))) r ⌝ }
 {
     if bytes.len() <= at {
         return Number::Bad(at); // the third byte is missing
     }
     let group = wide(bytes[at]);
     if group < 128 {
-        if may_end(padded, group) {
-            return Number::Value {
-                value: first % 128 + 128 * (second % 128 + 128 * group),
-                next: at + 1, // past the third group
-            };
+        if group == 0 {
+            return Number::Bad(at); // the third group is more than the number needs
         }
-        return Number::Bad(at); // the third group is more than the number needs
+        return Number::Value {
+            value: first % 128 + 128 * (second % 128 + 128 * group),
+            next: at + 1, // past the third group
+        };
     }
     Number::Bad(at) // a fourth group is promised
 }
 
 // The number whose first group is given, by the groups at a place.
-fn second_at(bytes: &[u8], at: usize, padded: bool, first: u32) -> Number
-    ensures { λ r. ⌜ ReadsNumber (nextGroup (first % 128) (groups padded padded 1 at (drop at (now (bytes .entry))))) r ⌝ }
+fn second_at(bytes: &[u8], at: usize, first: u32) -> Number
+    ensures { λ r. ⌜ ReadsNumber (nextGroup (first % 128) (groups false 1 at (drop at (now (bytes .entry))))) r ⌝ }
 {
     if bytes.len() <= at {
         return Number::Bad(at); // the second byte is missing
     }
     let group = wide(bytes[at]);
     if group < 128 {
-        if may_end(padded, group) {
-            return Number::Value {
-                value: first % 128 + 128 * group,
-                next: at + 1, // past the second group
-            };
+        if group == 0 {
+            return Number::Bad(at); // the second group is more than the number needs
         }
-        return Number::Bad(at); // the second group is more than the number needs
+        return Number::Value {
+            value: first % 128 + 128 * group,
+            next: at + 1, // past the second group
+        };
     }
-    third_at(bytes, at + 1, padded, first, group)
+    third_at(bytes, at + 1, first, group)
 }
 
-// The number at a place: groups of seven bits, lowest first, top bit set when another follows, at most three. `padded` says whether a number in more
-// groups than it needs is read. Straight-line code: most numbers end with their first group.
-pub fn number_at(bytes: &[u8], at: usize, padded: bool) -> Number
-    ensures { λ r. ⌜ ReadsNumber (number padded at (drop at (now (bytes .entry)))) r ⌝ }
+// The number at a place: groups of seven bits, lowest first, top bit set when another follows, at most three and no more than it needs. Straight-line
+// code: most numbers end with their first group.
+pub fn number_at(bytes: &[u8], at: usize) -> Number
+    ensures { λ r. ⌜ ReadsNumber (number at (drop at (now (bytes .entry)))) r ⌝ }
 {
     if bytes.len() <= at {
         return Number::Bad(at); // the first byte is missing
@@ -87,5 +76,5 @@ pub fn number_at(bytes: &[u8], at: usize, padded: bool) -> Number
             next: at + 1, // past the only group
         };
     }
-    second_at(bytes, at + 1, padded, first)
+    second_at(bytes, at + 1, first)
 }

@@ -31,23 +31,19 @@ module _ where
   groups-count zero v = (omega arith, omega arith)
   groups-count (suc more) v = longer more v (ltb v 128) (groups-count more (v / 128))
 
-or-right : (a b : Bool) → b ≡ true → (a || b) ≡ true
-or-right true b e = refl
-or-right false b e = e
-
 -- reading what was written gives the number
-pub number-back : (padded empty : Bool) (more at v : ℕ) (rest : List ℕ) → v < limit more → (empty || ltb 0 v) ≡ true
-    → groups padded empty more at (writtenGroups more v ++ rest) ≡ value v (at + length (writtenGroups more v)) rest
+pub number-back : (isFirst : Bool) (more at v : ℕ) (rest : List ℕ) → v < limit more → (isFirst || ltb 0 v) ≡ true
+    → groups isFirst more at (writtenGroups more v ++ rest) ≡ value v (at + length (writtenGroups more v)) rest
 unfolding groups writtenGroups limit
-number-back padded empty zero at v rest h ok = rw (lt-ltb _ _ h, ok)
-number-back padded empty (suc more) at v rest h ok = go (ltb v 128) refl (number-back padded padded more (at + 1) (v / 128) rest (omega arith))
+number-back isFirst zero at v rest h ok = rw (lt-ltb _ _ h, ok)
+number-back isFirst (suc more) at v rest h ok = go (ltb v 128) refl (number-back false more (at + 1) (v / 128) rest (omega arith))
   where
     high : List ℕ
     high = writtenGroups more (v / 128)
 
     go : (b : Bool) → ltb v 128 ≡ b
-        → ((padded || ltb 0 (v / 128)) ≡ true → groups padded padded more (at + 1) (high ++ rest) ≡ value (v / 128) (at + 1 + length high) rest)
-        → groups padded empty (suc more) at (cond b (v ∷ []) ((128 + v % 128) ∷ high) ++ rest) ≡ value v
+        → (ltb 0 (v / 128) ≡ true → groups false more (at + 1) (high ++ rest) ≡ value (v / 128) (at + 1 + length high) rest)
+        → groups isFirst (suc more) at (cond b (v ∷ []) ((128 + v % 128) ∷ high) ++ rest) ≡ value v
         (at + length (cond b (v ∷ []) ((128 + v % 128) ∷ high))) rest
     go true e ih = rw (e, ok)
     go false e ih =
@@ -56,12 +52,12 @@ number-back padded empty (suc more) at v rest h ok = go (ltb v 128) refl (number
         let l : 128 ≤ 128 + v % 128 = omega arith in
         let m : (128 + v % 128) % 128 + 128 * (v / 128) ≡ v = omega arith in
         let n : at + 1 + length high ≡ at + suc (length high) = omega arith in
-        rw (le-ltb _ _ l, ih (or-right padded (ltb 0 (v / 128)) (lt-ltb _ _ some)), m, n)
+        rw (le-ltb _ _ l, ih (lt-ltb _ _ some), m, n)
 
 -- a number of three groups at most
 module _ (at v : ℕ) (h : v ≤ maxNumber) where
-  pub number-read : (padded : Bool) (rest : List ℕ) → number padded at (writtenNumber v ++ rest) ≡ value v (at + length (writtenNumber v)) rest
-  number-read padded rest = number-back padded true 2 at v rest (omega (arith, limit-three)) refl
+  pub number-read : (rest : List ℕ) → number at (writtenNumber v ++ rest) ≡ value v (at + length (writtenNumber v)) rest
+  number-read rest = number-back true 2 at v rest (omega (arith, limit-three)) refl
 
   -- there is room for it
   module _ (out : List ℕ) (room : at + length (writtenNumber v) ≤ length out) where

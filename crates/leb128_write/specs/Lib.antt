@@ -3,3 +3,4 @@ pub mod Answers
 pub mod Room
 pub mod Theorems
 pub mod Laws
+pub mod FormLaws

@@ -144,7 +144,8 @@ hall-placed s = long (ltb maxPlan (length s)) (withOuter (planNumber 0 s)) (go (
 
     at-zero : (place : ℕ) → NumberFails s 0 place → place ≡ 0 → s ≡ []
     at-zero place (inl f) z = no-bytes s (omega (arith, f .0))
-    at-zero place (inr f) z = absurd (omega (arith, f .0))
+    at-zero place (inr (inl f)) z = absurd (omega (arith, f .0))
+    at-zero place (inr (inr f)) z = absurd (omega (arith, f .0))
 
     go : (p : Parsed) → planNumber 0 (drop 0 s) ≡ p → Bounded 0 (length s) p → HallPlaced s (withOuter p)
     go (value n next rest) e b =

@@ -11,7 +11,7 @@ use Rattle.answers.specs.Numbers.{inputTooLong, malformedPlan}
 use Rattle.answers.specs.Breaches.{noPlace}
 use Rattle.leb128.specs.Number.{Parsed, value, bad}
 use Rattle.plan_read.specs.Limits.{maxPlan, maxRows}
-use Rattle.plan_read.specs.Plan.{Plan, rows, refused, malformed, consRow, afterNumber, planNumber, row, rowsFrom, planIn, planOf, planAnswer}
+use Rattle.plan_read.specs.Plan.{Plan, rows, refused, malformed, consRow, afterNumber, planNumber, row, rowsBy, rowsFrom, planIn, planBy, planOf, planAnswer}
 use Rattle.plan_read.specs.declared.Row.{Row}
 use Rattle.plan.specs.Answers.{summary, summaryOf}
 use Rattle.place_theorems.specs.PlaceTheorems.{PlaceIn}
@@ -47,7 +47,7 @@ after-placed at most (value v next rest) go b u = wider (next + length rest) mos
 after-placed at most (bad place) go b u = malformed-placed most place (b .1)
 
 rows-placed : (n at : ℕ) (s : List ℕ) → Placed (at + length s) (rowsFrom n at s)
-unfolding rowsFrom
+unfolding rowsBy
 rows-placed zero at [] = tt
 rows-placed zero at (b ∷ s) = malformed-placed (at + length (b ∷ s)) at (omega arith)
 rows-placed (suc n) at s =
@@ -59,7 +59,7 @@ either most true p q u w = u
 either most false p q u w = w
 
 pub plan-placed : (s : List ℕ) → Placed (length s) (planOf s)
-unfolding planOf
+unfolding planBy
 plan-placed s =
     either (length s) (ltb maxPlan (length s)) (refused inputTooLong noPlace) (planIn s) (inl (refl, refl))
     (after-placed 0 (length s) (planNumber 0 s) (λ count next rest. cond (leb count maxRows) (rowsFrom count next rest) (malformed 0)) (first-bounded s)

@@ -48,9 +48,13 @@ use Rattle.place_theorems.specs.Without.{
   hallLengthBy,
 }
 
--- Reading a number of a plan s at `at` fails at the first byte that is missing, or at its third byte, which is there and promises another.
+-- Reading a number of a plan s at `at` fails at the first byte that is missing; at its third byte, which is there and promises another; or at its second or
+-- third, which is there and 0, so that the number needs fewer.
 abbrev pub NumberFails : List ℕ → ℕ → ℕ → Type 0
-NumberFails s at place = ((place ≡ length s) × (place ≤ at + 2)) ⊎ ((place ≡ at + 2) × ((place < length s) × (128 ≤ getD s place 0)))
+NumberFails s at place =
+    ((place ≡ length s) × (place ≤ at + 2))
+    ⊎ (((place ≡ at + 2) × ((place < length s) × (128 ≤ getD s place 0)))
+    ⊎ ((at + 1 ≤ place) × ((place ≤ at + 2) × ((place < length s) × (getD s place 0 ≡ 0)))))
 
 -- A place is never past its plan's length, and where there is none is 0.
 pub record PlaceIn (s : List ℕ) (number place : ℕ) : Type 0 where

@@ -10,8 +10,8 @@ use lib.Dec.{ltb, leb}
 use Rattle.answers.specs.Numbers.{inputTooLong}
 use Rattle.leb128.specs.Number.{Parsed, value, bad}
 use Rattle.leb128.specs.Laws.Reading.{shifted, groups-shifted}
-use Rattle.plan_read.specs.Limits.{maxPlan, maxRows, readsPadded}
-use Rattle.plan_read.specs.Plan.{Plan, rows, refused, malformed, consRow, afterNumber, planNumber, row, rowsFrom, planIn, planOf, noRow}
+use Rattle.plan_read.specs.Limits.{maxPlan, maxRows}
+use Rattle.plan_read.specs.Plan.{Plan, rows, refused, malformed, consRow, afterNumber, planNumber, row, rowsBy, rowsFrom, planIn, planBy, planOf, noRow}
 use Rattle.plan_read.specs.Places.{RowIn, shiftedRow, shiftedPlan, RowPlaces}
 use Rattle.plan_read.specs.Laws.Rows.{plan-in}
 use Rattle.plan_read.specs.declared.Row.{Row}
@@ -38,7 +38,7 @@ cons-adjoin at v next (rows l) a = (refl, a)
 cons-adjoin at v next (refused n place) a = tt
 
 rows-adjoin : (n at : ℕ) (s : List ℕ) → Adjoin at (rowsFrom n at s)
-unfolding rowsFrom Adjoining
+unfolding rowsBy Adjoining
 rows-adjoin zero at [] = tt
 rows-adjoin zero at (b ∷ s) = tt
 rows-adjoin (suc n) at s = go (planNumber at s) (λ next rest. rows-adjoin n next rest)
@@ -54,7 +54,7 @@ NextStart (rows l) = (c : ℕ) → suc c < length l → getD l (suc c) noRow .st
 NextStart (refused n place) = Unit
 
 plan-next : (s : List ℕ) → NextStart (planOf s)
-unfolding planOf
+unfolding planBy
 plan-next s = pick (ltb maxPlan (length s)) (refused inputTooLong 0) (planIn s) tt (go (planNumber 0 s))
   where
     pick : (t : Bool) (p q : Plan) → NextStart p → NextStart q → NextStart (cond t p q)
@@ -78,10 +78,10 @@ cons-shifted k r (refused n place) = refl
 
 -- the same bytes, read k places on
 rows-shifted : (n at k : ℕ) (s : List ℕ) → rowsFrom n (at + k) s ≡ shiftedPlan k (rowsFrom n at s)
-unfolding rowsFrom
+unfolding rowsBy
 rows-shifted zero at k [] = refl
 rows-shifted zero at k (b ∷ s) = refl
-rows-shifted (suc n) at k s = rw (groups-shifted readsPadded true 2 at k s) (go (planNumber at s) (λ next rest. rows-shifted n next k rest))
+rows-shifted (suc n) at k s = rw (groups-shifted true 2 at k s) (go (planNumber at s) (λ next rest. rows-shifted n next k rest))
   where
     go : (p : Parsed) → ((next : ℕ) (rest : List ℕ) → rowsFrom n (next + k) rest ≡ shiftedPlan k (rowsFrom n next rest))
         → afterNumber (shifted k p) (λ v next rest. consRow (row v (at + k) next) (rowsFrom n next rest))

@@ -14,8 +14,8 @@ use Rattle.leb128.specs.Answers.{numberAnswer}
 use Rattle.leb128.specs.Laws.Reading.{Rest, groups-rest}
 use Rattle.leb128.specs.declared.Number.{Number}
 use Rattle.leb128.specs.declared.Number.the-variants.{Value, Bad}
-use Rattle.plan_read.specs.Limits.{maxPlan, maxRows, readsPadded}
-use Rattle.plan_read.specs.Plan.{planNumber, row, rowAnswer, Plan, rows, refused, malformed, consRow, afterNumber, rowsFrom, planOf, noRow}
+use Rattle.plan_read.specs.Limits.{maxPlan, maxRows}
+use Rattle.plan_read.specs.Plan.{planNumber, row, rowAnswer, Plan, rows, refused, malformed, consRow, afterNumber, rowsBy, rowsFrom, planBy, planOf, noRow}
 use Rattle.plan_read.specs.Plan.{rowAt, planAnswer}
 use Rattle.plan_read.specs.Answers.{ReadsRow, parsedRow}
 use Rattle.plan_read.specs.declared.Row.{Row}
@@ -46,7 +46,7 @@ row-known at s (bad place) r u e = let z : _≡_ {A = ℕ} 0 1 = cc in absurd (o
 
 pub row-found : (at : ℕ) (s : List ℕ) (r : Row) → rowAnswer at (planNumber at (drop at s)) ≡ Found r
     → (planNumber at (drop at s) ≡ value (r .destination) (r .end) (drop (r .end) s)) × (r ≡ row (r .destination) at (r .end))
-row-found at s r e = row-known at s (planNumber at (drop at s)) r (groups-rest readsPadded true 2 at s) e
+row-found at s r e = row-known at s (planNumber at (drop at s)) r (groups-rest true 2 at s) e
 
 -- the row that stands at a place, all 0 where there is none: as at the plan's end
 abbrev pub rowThere : ℕ → List ℕ → Row
@@ -117,7 +117,7 @@ module _ (c i at n kept : ℕ) (s : List ℕ) where
   -- a turn that reads a row
   keeping-more : (r : Row) → i < n → rowAnswer at (planNumber at (drop at s)) ≡ Found r
       → keeping c i d (rowsFrom (n - i) at (drop at s)) ≡ keeping c (i + 1) (cond (eqb (i + 1) c) r d) (rowsFrom (n - (i + 1)) (r .end) (drop (r .end) s))
-  unfolding rowsFrom
+  unfolding rowsBy
   keeping-more r h e =
       let k : n - i ≡ suc (n - (i + 1)) = omega arith in
       let f = row-found at s r e in
@@ -137,24 +137,24 @@ module _ (c i at n kept : ℕ) (s : List ℕ) where
   -- a turn that finds anything but a row
   pub keeping-bad : (place : ℕ) → i < n → rowAnswer at (planNumber at (drop at s)) ≡ NotRow place
       → keeping c i d (rowsFrom (n - i) at (drop at s)) ≡ Refused malformedPlan place
-  unfolding rowsFrom
+  unfolding rowsBy
   keeping-bad place h e =
       let k : n - i ≡ suc (n - (i + 1)) = omega arith in
       rw (k, row-none at (planNumber at (drop at s)) place e)
 
   -- after the last row: bytes are left, or none
   pub keeping-over : n ≤ i → at < length s → keeping c i d (rowsFrom (n - i) at (drop at s)) ≡ Refused malformedPlan at
-  unfolding rowsFrom
+  unfolding rowsBy
   keeping-over h l = let k : n - i ≡ zero = omega arith in rw (k, drop-cons s at 0 l)
 
   pub keeping-done : n ≤ i → length s ≤ at → keeping c i d (rowsFrom (n - i) at (drop at s)) ≡ Rows i d
-  unfolding rowsFrom keptRow
+  unfolding rowsBy keptRow
   keeping-done h l = let k : n - i ≡ zero = omega arith in let z : i + 0 ≡ i = omega arith in rw (k, drop-of-length-le s l, z)
 
 -- a plan read whole, by its length and its first number
 module _ (c : ℕ) (s : List ℕ) where
   pub whole-long : maxPlan < length s → planAnswer c (planOf s) ≡ Refused inputTooLong 0
-  unfolding planOf
+  unfolding planBy
   whole-long h = rw (lt-ltb _ _ h)
 
   abbrev pub rowsAfter : Number → PlanRead
@@ -171,5 +171,5 @@ module _ (c : ℕ) (s : List ℕ) where
   after-number (bad place) u = refl
 
   pub whole-after : length s ≤ maxPlan → rowsAfter (numberAnswer (planNumber 0 (drop 0 s))) ≡ planAnswer c (planOf s)
-  unfolding planOf
-  whole-after h = rw (le-ltb _ _ h) (after-number (planNumber 0 s) (groups-rest readsPadded true 2 0 s))
+  unfolding planBy
+  whole-after h = rw (le-ltb _ _ h) (after-number (planNumber 0 s) (groups-rest true 2 0 s))

@@ -1,6 +1,5 @@
 -- The limits of a plan (docs/RULES.md, 'Chute plan' and 'Numbers').
 use Prim.Native.Nat.{ℕ}
-use mathlib.Core.Bool.{Bool, true}
 use Rattle.leb128.specs.Number.{maxNumber}
 
 -- bytes of a plan to be read
@@ -13,7 +12,3 @@ maxRows = 4096
 -- the largest number of three groups
 abbrev pub maxDestination : ℕ
 maxDestination = maxNumber
-
--- whether a number in more groups than it needs is read
-abbrev pub readsPadded : Bool
-readsPadded = true

@@ -8,16 +8,16 @@ use lib.ListN.{length, getD}
 use Rattle.answers.specs.Numbers.{inputTooLong, malformedPlan}
 use Rattle.answers.specs.Breaches.{tooManyRows, bytesAfter, placeOf, noPlace}
 use Rattle.leb128.specs.Number.{Parsed, value, bad, number}
-use Rattle.plan_read.specs.Limits.{maxPlan, maxRows, readsPadded}
+use Rattle.plan_read.specs.Limits.{maxPlan, maxRows}
 use Rattle.plan_read.specs.declared.Row.{Row}
 use Rattle.plan_read.specs.declared.RowRead.{RowRead}
 use Rattle.plan_read.specs.declared.RowRead.the-variants.{Found, NotRow}
 use Rattle.plan_read.specs.declared.PlanRead.{PlanRead}
 use Rattle.plan_read.specs.declared.PlanRead.the-variants.{Rows, Refused}
 
--- a number of a plan, at a place
+-- a number of a plan, at a place, be it a flat plan or a hall plan
 abbrev pub planNumber : ℕ → List ℕ → Parsed
-planNumber at s = number readsPadded at s
+planNumber at s = number at s
 
 abbrev pub row : ℕ → ℕ → ℕ → Row
 row d a e = record { destination = d; start = a; end = e }
@@ -44,17 +44,29 @@ abbrev pub afterNumber : Parsed → (ℕ → ℕ → List ℕ → Plan) → Plan
 afterNumber (value v next rest) go = go v next rest
 afterNumber (bad place) go = malformed place
 
--- n rows at the place `at`, and then nothing more
-unfoldable pub rowsFrom : ℕ → ℕ → List ℕ → Plan
-rowsFrom zero at [] = rows []
-rowsFrom zero at (b ∷ rest) = malformed (placeOf (bytesAfter at))
-rowsFrom (suc n) at s = afterNumber (planNumber at s) (λ v next rest. consRow (row v at next) (rowsFrom n next rest))
+-- what bytes are as a plan, where `numberAt` reads a number at a place
+module _ (numberAt : ℕ → List ℕ → Parsed) where
+  -- n rows at the place `at`, and then nothing more
+  unfoldable pub rowsBy : ℕ → ℕ → List ℕ → Plan
+  rowsBy zero at [] = rows []
+  rowsBy zero at (b ∷ rest) = malformed (placeOf (bytesAfter at))
+  rowsBy (suc n) at s = afterNumber (numberAt at s) (λ v next rest. consRow (row v at next) (rowsBy n next rest))
+
+  abbrev pub planInBy : List ℕ → Plan
+  planInBy s = afterNumber (numberAt 0 s) (λ count next rest. cond (leb count maxRows) (rowsBy count next rest) (malformed (placeOf tooManyRows)))
+
+  unfoldable pub planBy : List ℕ → Plan
+  planBy s = cond (ltb maxPlan (length s)) (refused inputTooLong noPlace) (planInBy s)
+
+-- with the numbers of plans
+abbrev pub rowsFrom : ℕ → ℕ → List ℕ → Plan
+rowsFrom = rowsBy planNumber
 
 abbrev pub planIn : List ℕ → Plan
-planIn s = afterNumber (planNumber 0 s) (λ count next rest. cond (leb count maxRows) (rowsFrom count next rest) (malformed (placeOf tooManyRows)))
+planIn = planInBy planNumber
 
-unfoldable pub planOf : List ℕ → Plan
-planOf s = cond (ltb maxPlan (length s)) (refused inputTooLong noPlace) (planIn s)
+abbrev pub planOf : List ℕ → Plan
+planOf = planBy planNumber
 
 -- the row of a chute, which count from 1: all 0 where there is none
 abbrev pub noRow : Row

@@ -13,9 +13,6 @@ pub const MAX_ROWS: u32 = 4096;
 
 pub const MAX_DESTINATION: u32 = leb128::MAX_NUMBER;
 
-// Whether a number in more groups than it needs is read.
-pub const READS_PADDED: bool = true;
-
 // A row: its destination, and where its bytes start and end in the plan.
 pub struct Row {
     pub destination: u32,
@@ -33,7 +30,7 @@ pub enum RowRead {
 pub fn row_at(plan: &[u8], at: usize) -> RowRead
     ensures { λ r. ⌜ ReadsRow at (planNumber at (drop at (now (plan .entry)))) r ⌝ }
 {
-    match leb128::number_at(plan, at, READS_PADDED) {
+    match leb128::number_at(plan, at) {
         Number::Value { value, next } => RowRead::Found(Row {
             destination: value,
             start: at,
@@ -127,7 +124,7 @@ pub fn read_whole(plan: &[u8], chute: u64) -> PlanRead
             place: answers::NO_PLACE,
         };
     }
-    match leb128::number_at(plan, 0, READS_PADDED) {
+    match leb128::number_at(plan, 0) {
         Number::Value { value, next } => {
             if MAX_ROWS < value {
                 return malformed(0); // the place of a plan with too many rows

@@ -35,7 +35,7 @@ fn stays(number: u8, place: usize, cursor: Cursor) -> WalkAnswer
 fn first_row(plan: &[u8]) -> usize
     ensures { λ r. ⌜ r ≡ firstRowAt (now (plan .entry)) ⌝ }
 {
-    match leb128::number_at(plan, 0, plan_read::READS_PADDED) {
+    match leb128::number_at(plan, 0) {
         Number::Value { value: _, next } => next,
         Number::Bad(_) => 0,
     }

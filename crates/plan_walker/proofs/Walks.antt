@@ -13,8 +13,8 @@ use Rattle.answers.specs.Done.{ifDone}
 use Rattle.answers.specs.Breaches.{noPlace}
 use Rattle.leb128.specs.Number.{Parsed, value, bad, groups}
 use Rattle.leb128.specs.Laws.Reading.{Rest, groups-rest}
-use Rattle.plan_read.specs.Limits.{maxPlan, maxRows, readsPadded}
-use Rattle.plan_read.specs.Plan.{Plan, rows, refused, malformed, consRow, afterNumber, planNumber, row, rowsFrom, planIn, planOf, noRow, planAnswer}
+use Rattle.plan_read.specs.Limits.{maxPlan, maxRows}
+use Rattle.plan_read.specs.Plan.{Plan, rows, refused, malformed, consRow, afterNumber, planNumber, row, rowsBy, rowsFrom, planIn, planBy, planOf, noRow, planAnswer}
 use Rattle.plan_read.specs.Laws.Refusals.{Numbered, plan-numbered}
 use Rattle.plan.specs.Answers.{summaryOf, summary, rowFound, noChuteRow, chuteRow, chuteRowOf, destinationOf, lookupOf}
 use Rattle.plan_read.specs.declared.Row.{Row}
@@ -98,13 +98,13 @@ module _ (plan : RefT (List ℕ)) where
   asks-row at v next rest (refused n place) e ih = tt
 
   asks-rows : (n at : ℕ) → AsksFrom at (rowsFrom n at (drop at s))
-  unfolding rowsFrom
+  unfolding rowsBy
   asks-rows zero at = go (drop at s) refl
     where
       go : (t : List ℕ) → drop at s ≡ t → AsksFrom at (rowsFrom zero at t)
       go [] e = asks-end at e
       go (b ∷ t) e = tt
-  asks-rows (suc n) at = go (planNumber at (drop at s)) refl (groups-rest readsPadded true 2 at s) (λ next. asks-rows n next)
+  asks-rows (suc n) at = go (planNumber at (drop at s)) refl (groups-rest true 2 at s) (λ next. asks-rows n next)
     where
       go : (p : Parsed) → planNumber at (drop at s) ≡ p → Rest at s p → ((next : ℕ) → AsksFrom next (rowsFrom n next (drop next s)))
           → AsksFrom at (afterNumber p (λ v next rest. consRow (row v at next) (rowsFrom n next rest)))
@@ -112,8 +112,8 @@ module _ (plan : RefT (List ℕ)) where
       go (bad place) e r ih = tt
 
   asks-plan : AsksFrom (pastNumber (planNumber 0 s)) (planOf s)
-  unfolding planOf
-  asks-plan = long (ltb maxPlan (length s)) (pastNumber (planNumber 0 s)) (planIn s) (go (planNumber 0 s) (groups-rest readsPadded true 2 0 s))
+  unfolding planBy
+  asks-plan = long (ltb maxPlan (length s)) (pastNumber (planNumber 0 s)) (planIn s) (go (planNumber 0 s) (groups-rest true 2 0 s))
     where
       long : (b : Bool) (at : ℕ) (p : Plan) → AsksFrom at p → AsksFrom at (cond b (refused inputTooLong 0) p)
       long true at p x = tt

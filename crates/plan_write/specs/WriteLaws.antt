@@ -9,8 +9,8 @@ use lib.Dec.{leb}
 use borrow.Author.Tests.{le-ltb, le-leb, leb-true}
 use Rattle.leb128_write.specs.Written.{writtenNumber}
 use Rattle.leb128_write.specs.Laws.{groups-count, number-read}
-use Rattle.plan_read.specs.Limits.{maxPlan, maxRows, maxDestination, readsPadded}
-use Rattle.plan_read.specs.Plan.{rows, row, rowsFrom, planOf, noRow}
+use Rattle.plan_read.specs.Limits.{maxPlan, maxRows, maxDestination}
+use Rattle.plan_read.specs.Plan.{rows, row, rowsBy, rowsFrom, planBy, planOf, noRow}
 use Rattle.plan_read.specs.declared.Row.{Row}
 use Rattle.plan_length.specs.Length.{writtenRows, writtenPlan, rowsAllowed}
 use Rattle.plan_length.specs.Laws.{and-left, and-right}
@@ -32,11 +32,11 @@ placed-row at (v ∷ l) zero = refl
 placed-row at (v ∷ l) (suc c) = placed-row (at + length (writtenNumber v)) l c
 
 rows-back : (at : ℕ) (l : List ℕ) → rowsAllowed l ≡ true → rowsFrom (length l) at (writtenRows l) ≡ rows (placed at l)
-unfolding rowsFrom writtenRows rowsAllowed placed
+unfolding rowsBy writtenRows rowsAllowed placed
 rows-back at [] ok = refl
 rows-back at (v ∷ l) ok =
     let h : v ≤ maxDestination = leb-true v maxDestination (and-left (leb v maxDestination) (rowsAllowed l) ok) in
-    rw (number-read at v h readsPadded (writtenRows l), rows-back (at + length (writtenNumber v)) l (and-right (leb v maxDestination) (rowsAllowed l) ok))
+    rw (number-read at v h (writtenRows l), rows-back (at + length (writtenNumber v)) l (and-right (leb v maxDestination) (rowsAllowed l) ok))
 
 -- a written plan is short
 pub rows-short : (l : List ℕ) → length (writtenRows l) ≤ 3 * length l
@@ -45,11 +45,11 @@ rows-short [] = omega arith
 rows-short (v ∷ l) = rw length-append (omega (arith, groups-count 2 v, rows-short l))
 
 pub plan-back : (l : List ℕ) → length l ≤ maxRows → rowsAllowed l ≡ true → planOf (writtenPlan l) ≡ rows (placed (length (writtenNumber (length l))) l)
-unfolding planOf writtenPlan
+unfolding planBy writtenPlan
 plan-back l h ok =
     let n : ℕ = length (writtenNumber (length l)) in
     let k : length l ≤ maxDestination = omega arith in
     let z : 0 + n ≡ n = omega arith in
     let short : length (writtenNumber (length l) ++ writtenRows l) ≤ maxPlan =
     omega (arith, length-append (writtenNumber (length l)) (writtenRows l), groups-count 2 (length l), rows-short l) in
-    rw (le-ltb _ _ short, number-read 0 (length l) k readsPadded (writtenRows l), z, le-leb _ _ h) (rows-back n l ok)
+    rw (le-ltb _ _ short, number-read 0 (length l) k (writtenRows l), z, le-leb _ _ h) (rows-back n l ok)

@@ -2,12 +2,12 @@
 use mathlib.Core.Path.{refl}
 use Rattle.encode.proofs.Facts.{facts}
 use Rattle.leb128.specs.Number.{groups}
-use Rattle.plan_read.specs.Plan.{rowsFrom, planOf}
+use Rattle.plan_read.specs.Plan.{rowsBy, planBy}
 use Rattle.plan.specs.Answers.{summaryOf, chuteRowOf, lookupOf}
 use Rattle.twelve_facts.specs.TwelveFacts.{planAbove, TwelveFacts}
 
 pub twelve-facts : TwelveFacts
-unfolding planAbove lookupOf chuteRowOf summaryOf planOf rowsFrom groups
+unfolding planAbove lookupOf chuteRowOf summaryOf planBy rowsBy groups
 twelve-facts =
     record {
       p1 = facts .p1;

@@ -8,7 +8,6 @@ use lib.ListN.{length, drop, length-drop}
 use Rattle.answers.specs.Breaches.{placeOf}
 use Rattle.leb128.specs.Number.{Parsed, value, bad, maxNumber}
 use Rattle.leb128.specs.Laws.Reading.{Used, groups-used, Rest, groups-rest, limit-three}
-use Rattle.plan_read.specs.Limits.{readsPadded}
 use Rattle.plan_read.specs.Plan.{planNumber}
 use Rattle.hall_entry.specs.Entries.{kindAllowed, Head, first, wrong}
 use Rattle.hall_entry.specs.Bytes.{valued, kindBreach, judged, byteHead}
@@ -27,9 +26,9 @@ module _ (s : List ℕ) where
   NumberAfter at (bad place) = Unit
 
   pub number-inside : (at : ℕ) → at ≤ length s → NumberAfter at (planNumber at (drop at s))
-  number-inside at h = go (planNumber at (drop at s)) (groups-used readsPadded true 2 at (drop at s)) (groups-rest readsPadded true 2 at s)
+  number-inside at h = go (planNumber at (drop at s)) (groups-used true 2 at (drop at s)) (groups-rest true 2 at s)
     where
-      go : (p : Parsed) → Used readsPadded true 2 at (drop at s) p → Rest at s p → NumberAfter at p
+      go : (p : Parsed) → Used true 2 at (drop at s) p → Rest at s p → NumberAfter at p
       go (value v next rest) u r =
           record {
             small = omega (arith, limit-three, u .below);

@@ -1,7 +1,10 @@
 -- The second group, by its byte, below which the first is put; or the third.
-use mathlib.Core.Path.{sym, ap, subst, _∙_}
+use mathlib.Core.Path.{ap, subst}
+use mathlib.Core.Bool.{false}
 use Prim.Native.Nat.{_%_}
+use native.Mathlib.Omega.{arith}
 use borrow.Author.Needs.{needs}
+use borrow.Author.Tests.{lt-ltb, le-ltb}
 use denote.Ref.{now}
 use Rattle.leb128.specs.Number.{Parsed, nextGroup}
 use Rattle.leb128.specs.Answers.{ReadsNumber}
@@ -13,7 +16,7 @@ returns : tie.Need-returns
 returns c =
     let a = c .before .before .args in
     read-bad _ _ (ap (λ (q : Parsed). nextGroup (a .first % 128) q)
-    (group-end (a .padded) (a .padded) 1 (a .at) 0 (now (a .bytes)) (c .if1 .taken)))
+    (group-end false 1 (a .at) 0 (now (a .bytes)) (c .if1 .taken)))
 
 shared-slice-read-wide : tie.Need-shared-slice-read-wide
 shared-slice-read-wide c = search needs
@@ -21,38 +24,35 @@ shared-slice-read-wide c = search needs
 wide-requires : tie.Need-wide-requires
 wide-requires c κs = search needs
 
-may-end-requires : tie.Need-may-end-requires
-may-end-requires c κs = search needs
+returns-2 : tie.Need-returns-2
+returns-2 c =
+    let w = c .before .before in
+    let a = w .before .before .before .before .args in
+    let over = le-ltb 0 (w .wide .result) (omega (arith, c .if3 .taken)) in
+    read-bad _ _
+    (ap (λ (q : Parsed). nextGroup (a .first % 128) q)
+    (group-empty false 1 (a .at) (w .wide .result) (now (a .bytes)) (w .before .before .if1 .left) (w .wide .ensures)
+    (c .before .if2 .taken) over))
 
-mul-t12 : tie.Need-mul-t12
-mul-t12 c = search needs
+mul-t11 : tie.Need-mul-t11
+mul-t11 c = search needs
+
+add-t12 : tie.Need-add-t12
+add-t12 c = search needs
 
 add-t13 : tie.Need-add-t13
 add-t13 c = search needs
 
-add-t14 : tie.Need-add-t14
-add-t14 c = search needs
-
-returns-2 : tie.Need-returns-2
-returns-2 c =
-    let w = c .before .before .before in
-    let a = w .before .before .before .before .args in
-    let g = w .wide .result in
-    let ok = sym (c .before .may-end .ensures) ∙ c .if3 .taken in
-    read-value _ _ _ _
-    (ap (λ (q : Parsed). nextGroup (a .first % 128) q)
-    (group-last (a .padded) (a .padded) 1 (a .at) g (now (a .bytes)) (w .before .before .if1 .left) (w .wide .ensures)
-    (c .before .before .if2 .taken) ok))
-
 returns-3 : tie.Need-returns-3
 returns-3 c =
-    let w = c .before .before .before in
+    let w = c .before .before in
     let a = w .before .before .before .before .args in
-    let over = sym (c .before .may-end .ensures) ∙ c .if3 .left in
-    read-bad _ _
+    let g = w .wide .result in
+    let ok = lt-ltb 0 g (omega (arith, c .if3 .left)) in
+    read-value _ _ _ _
     (ap (λ (q : Parsed). nextGroup (a .first % 128) q)
-    (group-empty (a .padded) (a .padded) 1 (a .at) (w .wide .result) (now (a .bytes)) (w .before .before .if1 .left) (w .wide .ensures)
-    (c .before .before .if2 .taken) over))
+    (group-last false 1 (a .at) g (now (a .bytes)) (w .before .before .if1 .left) (w .wide .ensures)
+    (c .before .if2 .taken) ok))
 
 add-third-at : tie.Need-add-third-at
 add-third-at c = search needs
@@ -65,7 +65,7 @@ returns-4 c =
     let w = c .before .before in
     let a = w .before .before .before .before .args in
     subst (λ (p : Parsed). ReadsNumber (nextGroup (a .first % 128) p) (c .third-at .result))
-    (group-more (a .padded) (a .padded) 0 (a .at) (w .wide .result) (now (a .bytes)) (w .before .before .if1 .left) (w .wide .ensures) (c .before .if2 .left))
+    (group-more false 0 (a .at) (w .wide .result) (now (a .bytes)) (w .before .before .if1 .left) (w .wide .ensures) (c .before .if2 .left))
     (c .third-at .ensures)
 
 pub second-at-spec : {M : Type 1} → statement M
@@ -75,11 +75,10 @@ second-at-spec =
     returns
     shared-slice-read-wide
     wide-requires
-    may-end-requires
-    mul-t12
-    add-t13
-    add-t14
     returns-2
+    mul-t11
+    add-t12
+    add-t13
     returns-3
     add-third-at
     third-at-requires

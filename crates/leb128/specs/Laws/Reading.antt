@@ -21,27 +21,27 @@ limit-three = refl
 
 -- of a number v that was read at the place `at`, up to the place n: one byte or more and none past the end, `rest` is what is left, and the bytes taken read
 -- as the number alone
-pub record UsedBytes (padded empty : Bool) (more at : ℕ) (s : List ℕ) (v n : ℕ) (rest : List ℕ) : Type 0 where
+pub record UsedBytes (isFirst : Bool) (more at : ℕ) (s : List ℕ) (v n : ℕ) (rest : List ℕ) : Type 0 where
   pub some : at + 1 ≤ n
   pub bounded : n ≤ at + (more + 1)
   pub inside : n ≤ at + length s
   pub left : rest ≡ drop (n - at) s
-  pub alone : groups padded empty more at (take (n - at) s) ≡ value v n []
+  pub alone : groups isFirst more at (take (n - at) s) ≡ value v n []
   pub below : v < limit more
 
-abbrev pub Used : Bool → Bool → ℕ → ℕ → List ℕ → Parsed → Type 0
-Used padded empty more at s (value v n rest) = UsedBytes padded empty more at s v n rest
-Used padded empty more at s (bad place) = Unit
+abbrev pub Used : Bool → ℕ → ℕ → List ℕ → Parsed → Type 0
+Used isFirst more at s (value v n rest) = UsedBytes isFirst more at s v n rest
+Used isFirst more at s (bad place) = Unit
 
-module _ (padded empty : Bool) (at b : ℕ) (s : List ℕ) where
+module _ (isFirst : Bool) (at b : ℕ) (s : List ℕ) where
   -- one group
-  last-read : (more : ℕ) → ltb b 128 ≡ true → (empty || ltb 0 b) ≡ true → groups padded empty more at (b ∷ s) ≡ value b (at + 1) s
+  last-read : (more : ℕ) → ltb b 128 ≡ true → (isFirst || ltb 0 b) ≡ true → groups isFirst more at (b ∷ s) ≡ value b (at + 1) s
   unfolding groups
   last-read zero l e = rw (l, e)
   last-read (suc more) l e = rw (l, e)
 
-module _ (padded empty : Bool) (at b : ℕ) (s : List ℕ) (more : ℕ) where
-  last-used : (t : Bool) → (empty || ltb 0 b) ≡ t → ltb b 128 ≡ true → Used padded empty more at (b ∷ s) (cond t (value b (at + 1) s) (bad at))
+module _ (isFirst : Bool) (at b : ℕ) (s : List ℕ) (more : ℕ) where
+  last-used : (t : Bool) → (isFirst || ltb 0 b) ≡ t → ltb b 128 ≡ true → Used isFirst more at (b ∷ s) (cond t (value b (at + 1) s) (bad at))
   last-used true e l =
       let small : b < 128 = ltb-true _ _ l in
       let k : at + 1 - at ≡ suc 0 = omega arith in
@@ -50,13 +50,13 @@ module _ (padded empty : Bool) (at b : ℕ) (s : List ℕ) (more : ℕ) where
         bounded = omega arith;
         inside = omega arith;
         left = rw k;
-        alone = rw k (last-read padded empty at b [] more l e);
+        alone = rw k (last-read isFirst at b [] more l e);
         below = omega (arith, limit-least more);
       }
   last-used false e l = tt
 
   -- a group, and those after it
-  next-used : (p : Parsed) → ltb b 128 ≡ false → Used padded padded more (at + 1) s p → Used padded empty (suc more) at (b ∷ s) (nextGroup (b % 128) p)
+  next-used : (p : Parsed) → ltb b 128 ≡ false → Used false more (at + 1) s p → Used isFirst (suc more) at (b ∷ s) (nextGroup (b % 128) p)
   unfolding groups limit
   next-used (value v n rest) e u =
       let k : n - at ≡ suc (n - (at + 1)) = omega (arith, u .some) in
@@ -70,33 +70,33 @@ module _ (padded empty : Bool) (at b : ℕ) (s : List ℕ) (more : ℕ) where
       }
   next-used (bad place) e u = tt
 
-pub groups-used : (padded empty : Bool) (more at : ℕ) (s : List ℕ) → Used padded empty more at s (groups padded empty more at s)
+pub groups-used : (isFirst : Bool) (more at : ℕ) (s : List ℕ) → Used isFirst more at s (groups isFirst more at s)
 unfolding groups
-groups-used padded empty more at [] = tt
-groups-used padded empty zero at (b ∷ s) = go (ltb b 128) refl
+groups-used isFirst more at [] = tt
+groups-used isFirst zero at (b ∷ s) = go (ltb b 128) refl
   where
-    go : (t : Bool) → ltb b 128 ≡ t → Used padded empty zero at (b ∷ s) (cond t (lastGroup empty b at s) (bad at))
-    go true l = last-used padded empty at b s zero (empty || ltb 0 b) refl l
+    go : (t : Bool) → ltb b 128 ≡ t → Used isFirst zero at (b ∷ s) (cond t (lastGroup isFirst b at s) (bad at))
+    go true l = last-used isFirst at b s zero (isFirst || ltb 0 b) refl l
     go false l = tt
-groups-used padded empty (suc more) at (b ∷ s) = go (ltb b 128) refl (groups-used padded padded more (at + 1) s)
+groups-used isFirst (suc more) at (b ∷ s) = go (ltb b 128) refl (groups-used false more (at + 1) s)
   where
     later : Parsed
-    later = groups padded padded more (at + 1) s
+    later = groups false more (at + 1) s
 
-    go : (t : Bool) → ltb b 128 ≡ t → Used padded padded more (at + 1) s later
-        → Used padded empty (suc more) at (b ∷ s) (cond t (lastGroup empty b at s) (nextGroup (b % 128) later))
-    go true l u = last-used padded empty at b s (suc more) (empty || ltb 0 b) refl l
-    go false l u = next-used padded empty at b s more later l u
+    go : (t : Bool) → ltb b 128 ≡ t → Used false more (at + 1) s later
+        → Used isFirst (suc more) at (b ∷ s) (cond t (lastGroup isFirst b at s) (nextGroup (b % 128) later))
+    go true l u = last-used isFirst at b s (suc more) (isFirst || ltb 0 b) refl l
+    go false l u = next-used isFirst at b s more later l u
 
 -- what is left, at a place of a list
 abbrev pub Rest : ℕ → List ℕ → Parsed → Type 0
 Rest at s (value v n rest) = (at + 1 ≤ n) × (rest ≡ drop n s)
 Rest at s (bad place) = Unit
 
-pub groups-rest : (padded empty : Bool) (more at : ℕ) (s : List ℕ) → Rest at s (groups padded empty more at (drop at s))
-groups-rest padded empty more at s = go (groups padded empty more at (drop at s)) (groups-used padded empty more at (drop at s))
+pub groups-rest : (isFirst : Bool) (more at : ℕ) (s : List ℕ) → Rest at s (groups isFirst more at (drop at s))
+groups-rest isFirst more at s = go (groups isFirst more at (drop at s)) (groups-used isFirst more at (drop at s))
   where
-    go : (p : Parsed) → Used padded empty more at (drop at s) p → Rest at s p
+    go : (p : Parsed) → Used isFirst more at (drop at s) p → Rest at s p
     go (value v n rest) u = let k : at + (n - at) ≡ n = omega (arith, u .some) in (u .some, u .left ∙ rw (drop-drop, k))
     go (bad place) u = tt
 
@@ -116,12 +116,12 @@ module _ (k at b : ℕ) (s : List ℕ) where
   last-shifted true false p q h = refl
   last-shifted false e p q h = h
 
-pub groups-shifted : (padded empty : Bool) (more at k : ℕ) (s : List ℕ) → groups padded empty more (at + k) s ≡ shifted k (groups padded empty more at s)
+pub groups-shifted : (isFirst : Bool) (more at k : ℕ) (s : List ℕ) → groups isFirst more (at + k) s ≡ shifted k (groups isFirst more at s)
 unfolding groups
-groups-shifted padded empty more at k [] = refl
-groups-shifted padded empty zero at k (b ∷ s) = last-shifted k at b s (ltb b 128) (empty || ltb 0 b) (bad at) (bad (at + k)) refl
-groups-shifted padded empty (suc more) at k (b ∷ s) =
+groups-shifted isFirst more at k [] = refl
+groups-shifted isFirst zero at k (b ∷ s) = last-shifted k at b s (ltb b 128) (isFirst || ltb 0 b) (bad at) (bad (at + k)) refl
+groups-shifted isFirst (suc more) at k (b ∷ s) =
     let m : at + k + 1 ≡ at + 1 + k = omega arith in
-    let later = groups padded padded more (at + 1) s in
-    last-shifted k at b s (ltb b 128) (empty || ltb 0 b) (nextGroup (b % 128) later) (nextGroup (b % 128) (groups padded padded more (at + k + 1) s))
-    (rw (m, groups-shifted padded padded more (at + 1) k s) (next-shifted k at b s (b % 128) later))
+    let later = groups false more (at + 1) s in
+    last-shifted k at b s (ltb b 128) (isFirst || ltb 0 b) (nextGroup (b % 128) later) (nextGroup (b % 128) (groups false more (at + k + 1) s))
+    (rw (m, groups-shifted false more (at + 1) k s) (next-shifted k at b s (b % 128) later))

@@ -8,7 +8,7 @@ use lib.Dec.{ltb, leb}
 use Rattle.answers.specs.Numbers.{inputTooLong}
 use Rattle.leb128.specs.Number.{Parsed, value, bad}
 use Rattle.plan_read.specs.Limits.{maxPlan, maxRows}
-use Rattle.plan_read.specs.Plan.{Plan, rows, refused, malformed, consRow, afterNumber, planNumber, row, rowsFrom, planIn, planOf}
+use Rattle.plan_read.specs.Plan.{Plan, rows, refused, malformed, consRow, afterNumber, planNumber, row, rowsBy, rowsFrom, planIn, planBy, planOf}
 use Rattle.plan_read.specs.declared.Row.{Row}
 
 abbrev pub Numbered : Plan → Type 0
@@ -24,7 +24,7 @@ after-numbered (value v next rest) go u = u v next rest
 after-numbered (bad place) go u = omega arith
 
 rows-numbered : (n at : ℕ) (s : List ℕ) → Numbered (rowsFrom n at s)
-unfolding rowsFrom
+unfolding rowsBy
 rows-numbered zero at [] = tt
 rows-numbered zero at (b ∷ s) = omega arith
 rows-numbered (suc n) at s =
@@ -35,7 +35,7 @@ pick-numbered true p q u w = u
 pick-numbered false p q u w = w
 
 pub plan-numbered : (s : List ℕ) → Numbered (planOf s)
-unfolding planOf
+unfolding planBy
 plan-numbered s =
     pick-numbered (ltb maxPlan (length s)) (refused inputTooLong 0) (planIn s) (omega arith)
     (after-numbered (planNumber 0 s) _

@@ -10,8 +10,8 @@ use lib.Dec.{ltb, leb}
 use Rattle.answers.specs.Numbers.{inputTooLong}
 use Rattle.leb128.specs.Number.{Parsed, value, bad}
 use Rattle.leb128.specs.Laws.Reading.{limit-three, Used, groups-used}
-use Rattle.plan_read.specs.Limits.{maxPlan, maxRows, readsPadded}
-use Rattle.plan_read.specs.Plan.{Plan, rows, refused, malformed, consRow, afterNumber, planNumber, row, rowsFrom, planIn, planOf, noRow}
+use Rattle.plan_read.specs.Limits.{maxPlan, maxRows}
+use Rattle.plan_read.specs.Plan.{Plan, rows, refused, malformed, consRow, afterNumber, planNumber, row, rowsBy, rowsFrom, planIn, planBy, planOf, noRow}
 use Rattle.plan_read.specs.Places.{RowIn}
 use Rattle.plan_read.specs.declared.Row.{Row}
 
@@ -28,15 +28,15 @@ cons-in s r (rows l) h a = go
 cons-in s r (refused n place) h a = tt
 
 rows-in : (s : List ℕ) (n at : ℕ) → RowsIn s (rowsFrom n at (drop at s))
-unfolding rowsFrom
+unfolding rowsBy
 rows-in s zero at = go (drop at s)
   where
     go : (t : List ℕ) → RowsIn s (rowsFrom zero at t)
     go [] = λ c h. absurd (omega arith)
     go (b ∷ t) = tt
-rows-in s (suc n) at = go (planNumber at (drop at s)) (groups-used readsPadded true 2 at (drop at s)) (λ next. rows-in s n next)
+rows-in s (suc n) at = go (planNumber at (drop at s)) (groups-used true 2 at (drop at s)) (λ next. rows-in s n next)
   where
-    go : (p : Parsed) → Used readsPadded true 2 at (drop at s) p → ((next : ℕ) → RowsIn s (rowsFrom n next (drop next s)))
+    go : (p : Parsed) → Used true 2 at (drop at s) p → ((next : ℕ) → RowsIn s (rowsFrom n next (drop next s)))
         → RowsIn s (afterNumber p (λ v next rest. consRow (row v at next) (rowsFrom n next rest)))
     go (value v next rest) u ih =
         let k : at + (next - at) ≡ next = omega (arith, u .some) in
@@ -54,8 +54,8 @@ rows-in s (suc n) at = go (planNumber at (drop at s)) (groups-used readsPadded t
 
 -- every row of a plan lies inside it
 pub plan-in : (s : List ℕ) → RowsIn s (planOf s)
-unfolding planOf
-plan-in s = long (ltb maxPlan (length s)) (planIn s) (go (planNumber 0 s) (groups-used readsPadded true 2 0 s))
+unfolding planBy
+plan-in s = long (ltb maxPlan (length s)) (planIn s) (go (planNumber 0 s) (groups-used true 2 0 s))
   where
     long : (t : Bool) (p : Plan) → RowsIn s p → RowsIn s (cond t (refused inputTooLong 0) p)
     long true p a = tt
@@ -65,7 +65,7 @@ plan-in s = long (ltb maxPlan (length s)) (planIn s) (go (planNumber 0 s) (group
     most true p a = a
     most false p a = tt
 
-    go : (p : Parsed) → Used readsPadded true 2 0 s p
+    go : (p : Parsed) → Used true 2 0 s p
         → RowsIn s (afterNumber p (λ count next rest. cond (leb count maxRows) (rowsFrom count next rest) (malformed 0)))
     go (value v next rest) u =
         let k : next - 0 ≡ next = omega arith in
