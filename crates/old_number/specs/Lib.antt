@@ -1,0 +1,2 @@
+pub mod OldNumber
+pub mod Laws
