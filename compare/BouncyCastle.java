@@ -133,8 +133,8 @@ public final class BouncyCastle {
                 session = refused ? Optional.empty() : Optional.of(new Session(call, new ByteArrayOutputStream(), new ArrayList<>()));
             }
             case "take", "give", "seal", "open", "seed", "draw", "cshake256", "kmac256", "kmacxof256" -> work(refused ? "refused" : call.entry(), call);
-            case "keccak_p", "plan_read", "plan_destination", "plan_row", "plan_length", "plan_write", "plan_start", "plan_step", "hall_read",
-                "hall_destination", "hall_read_into", "hall_length", "hall_write" -> leaveOut(NOT_OFFERED);
+            case "keccak_p", "plan_read", "plan_destination", "plan_row", "plan_length", "plan_write", "plan_migrated_length", "plan_migrate",
+                "plan_start", "plan_step", "hall_read", "hall_destination", "hall_read_into", "hall_length", "hall_write" -> leaveOut(NOT_OFFERED);
             default -> throw new IllegalArgumentException("line " + call.line() + ": there is no entry " + call.entry());
         }
     }

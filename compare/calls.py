@@ -16,6 +16,7 @@ import fast_sponge  # before every other module of the reference
 import hall_calls
 import hash_calls
 import limit_calls
+import migration_calls
 import place_calls
 import plan_calls
 import seal_calls
@@ -35,6 +36,7 @@ KINDS = {
     plan_calls.row: 12,
     plan_calls.write: 6,
     plan_calls.walk: 3,
+    migration_calls.migrate: 6,
     hall_calls.read: 6,
     hall_calls.look: 8,
     hall_calls.read_into: 8,
@@ -47,6 +49,7 @@ LIMITS = (limit_calls.one_shot, limit_calls.session, limit_calls.seal, limit_cal
 def lines(rng, count, small):
     """The lines, those at the limits first."""
     yield from plan_calls.limits(rng)
+    yield from migration_calls.limits(rng)
     yield from hall_calls.limits(rng)
     yield from place_calls.limits(rng)
     if not small:

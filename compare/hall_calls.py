@@ -93,8 +93,9 @@ def limits(rng):
         for chute in (0, 1, CHUTES, CHUTES + 1, 2**32 + 1):
             yield from look_of(lent, chute)
     for kind in (0, 1, *OTHER_KINDS):
-        yield from read_of(bytes([1]) + plan.written_number(kind) + bytes([0]))
-        yield from into_of(bytes([1]) + in_three_groups(kind) + bytes([0]), 1, 1)
+        for number in (plan.written_number(kind), in_three_groups(kind)):
+            yield from read_of(bytes([1]) + number + bytes([0]))
+            yield from into_of(bytes([1]) + number + bytes([0]), 1, 1)
         yield from write_of((1, [kind % 256], [0]), 3)
     for outer, value in ((1, LARGEST), (1, LARGEST + 1), (2**32 + 1, 7), (LARGEST, 7), (LARGEST + 1, 7)):
         yield from write_of((outer, [0], [value]), 5 if outer == 1 else 3)

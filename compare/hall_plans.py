@@ -5,7 +5,7 @@ import plan
 import plan_calls
 from callfile import pattern
 from choose import SEED
-from plan_calls import LARGEST, destination, in_three_groups
+from plan_calls import LARGEST, destination, padded_sometimes
 
 LEVELS, CHUTES = 8, 4_096
 OTHER_KINDS = [2, 3, 127, 128, 255, 256, 257, 65_536, LARGEST]  # some are 0 or 1 in their lowest byte
@@ -59,11 +59,6 @@ def some_halls(rng):
     return some_hall(rng, 1, *rng.choice([(3, 0.5), (6, 0.6), (40, 0.05), (1, 0.9)]))
 
 
-def padded_sometimes(rng):
-    """A writer of numbers, some of them in more groups than they need."""
-    return lambda value: in_three_groups(value) if rng.random() < 0.3 else plan.written_number(value)
-
-
 def numbers_of(halls):
     """The numbers that the halls' plan is made of."""
     return [len(halls), *(number for entry in hall.entries_in(halls) for number in entry)]
@@ -88,7 +83,7 @@ def some_plan(rng):
     if rng.random() < 0.02:
         return rng.choice([pattern(rng.choice([SEED - 1, SEED, SEED + 1]), 0), rng.randbytes(rng.randint(0, 6))]), rng.randint(0, 3)
     halls = some_halls(rng)
-    number = padded_sometimes(rng) if rng.random() < 0.2 else plan.written_number
+    number = padded_sometimes(rng, rng.choice([0.03, 0.3])) if rng.random() < 0.12 else plan.written_number
     numbers, choice = numbers_of(halls), rng.random()
     lent = b"".join(map(number, damaged(rng, numbers) if choice < 0.22 else numbers))
     return plan_calls.damaged(rng, lent) if 0.15 < choice < 0.4 else lent, len(numbers) // 2

@@ -1,11 +1,13 @@
 """Calls with malformed plans for every row of the table in docs/RULES.md, "Places", and which of these rows the answers of a file have."""
 
 import hall
+import migration
 import plan
 from callfile import parsed, pattern
 from choose import SEED
 from hall_calls import into_of, look_of, read_of
 from hall_plans import CHUTES, LONGEST, nested
+from migration_calls import migrate_of
 from plan_calls import SOURCES
 from plan_calls import look_of as flat_look_of
 from plan_calls import read_of as flat_read_of
@@ -15,7 +17,8 @@ GOOD, LONG = bytes.fromhex("0307AC0200"), pattern(SEED + 1, 0)
 FLAT = [
     *(bytes.fromhex(lent) for lent in ("", "80", "0307AC", "03078080")),  # cut
     *(bytes.fromhex(lent) for lent in ("808080", "0180808000", "0307AC02FFFFFF")),  # numbers that go on
-    *(bytes.fromhex(lent) for lent in ("8120", "81A00080", "FFFF7F0707")),  # too many rows
+    *(bytes.fromhex(lent) for lent in ("8000", "018700", "0307AC8200", "0207878000", "81A00080", "8200078080", "01870007")),  # padded numbers
+    *(bytes.fromhex(lent) for lent in ("8120", "812080", "FFFF7F0707")),  # too many rows
     *(bytes.fromhex(lent) for lent in ("0000", "0307AC020007", "0107808080")),  # bytes after the last row
     *(bytes.fromhex(lent) for lent in ("0280808007", "02808080808080", "812080808000")),  # two breaches
 ]
@@ -26,16 +29,19 @@ HALLS = [
     *(bytes.fromhex(lent) for lent in ("", "80", "0180", "0100", "010080", "0101", "0282", "FFFF7F0007")),  # cut
     *(bytes.fromhex(lent) for lent in ("808080", "01808080", "0101FFFFFF00", "0200078280800007")),  # numbers that go on
     *(bytes.fromhex(lent) for lent in ("0000", "01000702", "010100808080")),  # bytes after the last entry
-    *(bytes.fromhex(lent) for lent in ("0102", "01820007", "01FFFF7F00", "0200078280000080", "0302000080808000", "03008080800200")),  # other kinds
-    *(EIGHT + bytes.fromhex(lent) for lent in ("", "01", "818000", "818080", "8180", "02", "01808080")),  # levels
-    *(b"\x81\x20" + FULL + rest for rest in (b"\x00", b"\x80")),  # a chute too many, and a kind that is cut
-    *(b"\x82\x20" + FULL + rest for rest in (b"\x80\x80\x00" + NINE, NINE + b"\x00")),  # a chute too many before a level too many, and after it
+    *(bytes.fromhex(lent) for lent in ("8000", "81000007", "01800007", "01820007", "0200078280000080", "01008700", "010181000007")),  # padded numbers
+    *(bytes.fromhex(lent) for lent in ("0102", "01820107", "01FFFF7F00", "0200078281010080", "0302000080808000", "03008080800200")),  # other kinds
+    *(EIGHT + bytes.fromhex(lent) for lent in ("", "01", "0180", "8100", "818000", "818080", "8180", "02", "01808080")),  # levels, and padded kinds there
+    *(b"\x81\x20" + FULL + rest for rest in (b"\x00", b"\x80", b"\x80\x00\x07")),  # a chute too many, and a kind that is cut or padded
+    *(b"\x82\x20" + FULL + rest for rest in (b"\x00\x07" + NINE, NINE + b"\x00")),  # a chute too many before a level too many, and after it
     hall.bytes_of(LONGEST)[:-1],  # the last byte that a plan may have is missing
     plan.written_number(32_639) + hall.bytes_of(LONGEST)[3:],  # an entry is missing after it
 ]
-ELSE = "lists of another length than the plan's entries"  # the number 9 for a good plan
+# What the number 9 is for where the plan is a good one, by entry.
+ELSE = {"hall_read_into": "lists of another length than the plan's entries", "plan_migrate": "a buffer of another length than the migrated plan"}
 READERS = {
     **dict.fromkeys(["plan_read", "plan_destination", "plan_start"], plan),
+    **dict.fromkeys(["plan_migrated_length", "plan_migrate"], migration),
     **dict.fromkeys(["hall_read", "hall_destination", "hall_read_into"], hall),
 }
 
@@ -46,6 +52,7 @@ def limits(_rng):
         yield from flat_read_of(lent)
         yield from flat_look_of(lent, 1)
         yield from walk_of(lent)
+        yield from migrate_of(lent, migration.migrated_length(lent)[1])
         for other in (GOOD, LONG, *FLAT):
             yield from row_of(lent, other, 1)
         for other in (GOOD, LONG):
@@ -66,10 +73,10 @@ def met(line):
         return None
     which = SOURCES[call.answer.malformed] if entry == "plan_row" else "plan"
     breach = READERS.get(entry, plan).reading(getattr(call.given, which)).breach
-    return (f"{entry}, {which}" if entry == "plan_row" else entry), breach.rule if breach else ELSE
+    return (f"{entry}, {which}" if entry == "plan_row" else entry), breach.rule if breach else ELSE[entry]
 
 
 def owed():
     """What the answers of a file have to have: each row of the table for each entry that can meet it."""
     readers = {**READERS, **{f"plan_row, {which}": plan for which in SOURCES[1:]}}
-    return {(entry, rule) for entry, module in readers.items() for rule in module.BREACHES} | {("hall_read_into", ELSE)}
+    return {(entry, rule) for entry, module in readers.items() for rule in module.BREACHES} | set(ELSE.items())

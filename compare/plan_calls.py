@@ -25,8 +25,19 @@ def destinations(rng):
 
 
 def in_three_groups(value):
-    """A number in more groups than it may need, which readers accept."""
+    """A number in more groups than it may need, which the migration alone accepts."""
     return bytes([value & 127 | 128, value >> 7 & 127 | 128, value >> 14])
+
+
+def padded(rng, number):
+    """A number of a plan in one group more, or two if there is room for them."""
+    groups = min(3, len(number) + rng.choice([1, 1, 2]))
+    return bytes([*(byte | 128 for byte in number), *[128] * (groups - len(number))])[:-1] + b"\x00" if groups > len(number) else number
+
+
+def padded_sometimes(rng, share):
+    """A writer of numbers, such a share of them in more groups than they need, if they can have more."""
+    return lambda value: padded(rng, plan.written_number(value)) if rng.random() < share else plan.written_number(value)
 
 
 def plan_of(rows, number):
@@ -35,7 +46,7 @@ def plan_of(rows, number):
 
 
 def damaged(rng, good):
-    """A plan with a bit flipped, bytes cut, added or put in, or a number of too many groups."""
+    """A plan with a bit flipped, bytes cut, added or put in, or a number of too many groups: more than three, or more than it needs."""
     if not good:
         return rng.randbytes(1)
     at = rng.randrange(len(good))
@@ -49,6 +60,7 @@ def damaged(rng, good):
             good[:at] + rng.randbytes(1) + good[at:],
             good[:-1] + rng.choice([b"\x80\x80\x80\x00", b"\x80\x80\x80", b"\x80\x80"]),
             good[:at] + b"\xff\xff\xff" + good[at:],
+            good[:at] + bytes([good[at] | 128]) + rng.choice([b"\x00", b"\x80\x00"]) + good[at + 1 :],
         ]
     )
 
@@ -70,7 +82,7 @@ def some_plan(rng):
         return too_many_rows(rng)
     if choice < 0.08:
         return rng.randbytes(rng.randint(0, 6))
-    good = plan_of(destinations(rng), in_three_groups if choice < 0.18 else plan.written_number)
+    good = plan_of(destinations(rng), padded_sometimes(rng, rng.choice([0.03, 0.3])) if choice < 0.14 else plan.written_number)
     for _ in range(rng.choices([0, 1, 2], [62, 26, 12])[0]):
         good = damaged(rng, good)
     return good
@@ -125,8 +137,8 @@ def walk(rng):
 def limits(rng):
     """Every entry that reads a plan, on both sides of the limits of its bytes and of its rows."""
     short = plan_of([7, 300, 0], plan.written_number)
-    widest = plan_of([LARGEST] * ROWS, in_three_groups)
-    for lent in (widest, plan.written_number(ROWS + 1) + bytes(ROWS + 1), bytes(SEED), bytes(SEED + 1)):
+    widest = plan_of([LARGEST] * ROWS, plan.written_number)
+    for lent in (widest, in_three_groups(ROWS) + bytes(ROWS), plan.written_number(ROWS + 1) + bytes(ROWS + 1), bytes(SEED), bytes(SEED + 1)):
         yield from read_of(lent)
         yield from walk_of(lent)
         for chute in (1, ROWS, ROWS + 1):

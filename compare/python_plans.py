@@ -61,6 +61,14 @@ class PlanReader:
         same_length(written, given.length)
         return 0, written, NOWHERE
 
+    def plan_migrated_length(self, given: Any) -> Tuple:
+        return 0, len(plan.migrate(given.plan)), NOWHERE
+
+    def plan_migrate(self, given: Any) -> Tuple:
+        migrated = plan.migrate(given.plan)
+        same_length(migrated, given.length)
+        return 0, migrated, NOWHERE
+
     def plan_start(self, given: Any) -> Tuple:
         self.walk = None
         self.walk = plan.walk(given.plan)

@@ -46,18 +46,35 @@ static bool step(char *const *f)
     return same && edges_stand(&walked);
 }
 
-static bool write(char *const *f, buffer *rows)
+/* Whether the fields from f[0] on are the answer's. */
+static bool same_length(hf_length found, char *const *f)
+{
+    return found.number == number_of(f[0]) && found.length == number_of(f[1]) && found.place == number_of(f[2]);
+}
+
+/* The same of what was written into a lent buffer, which is given back. */
+static bool same_written(hf_written done, buffer *out, char *const *f)
+{
+    bool same = done.number == number_of(f[0]) && (done.number == 0 ? holds(out, f[1]) : untouched(out)) && done.place == number_of(f[2]);
+    give_back(out);
+    return same;
+}
+
+static bool migrated_length(char *const *f, const buffer *plan) { return same_length(hf_plan_migrated_length(plan->bytes, plan->length), f + 2); }
+
+static bool migrate(char *const *f, const buffer *plan)
+{
+    buffer out = lend(number_of(f[2]));
+    return same_written(hf_plan_migrate(plan->bytes, plan->length, out.bytes, out.length), &out, f + 3);
+}
+
+static bool write(char *const *f, const buffer *rows)
 {
     const uint32_t *values = (const uint32_t *)(const void *)rows->bytes;
-    if (strcmp(f[0], "plan_length") == 0) {
-        hf_length found = hf_plan_length(values, rows->length / 4);
-        return found.number == number_of(f[2]) && found.length == number_of(f[3]) && found.place == number_of(f[4]);
-    }
+    if (strcmp(f[0], "plan_length") == 0)
+        return same_length(hf_plan_length(values, rows->length / 4), f + 2);
     buffer out = lend(number_of(f[2]));
-    hf_written done = hf_plan_write(values, rows->length / 4, out.bytes, out.length);
-    bool same = done.number == number_of(f[3]) && (done.number == 0 ? holds(&out, f[4]) : untouched(&out)) && done.place == number_of(f[5]);
-    give_back(&out);
-    return same;
+    return same_written(hf_plan_write(values, rows->length / 4, out.bytes, out.length), &out, f + 3);
 }
 
 static bool of_rows(char *const *f)
@@ -68,6 +85,14 @@ static bool of_rows(char *const *f)
     return same;
 }
 
+static const struct {
+    const char *name;
+    bool (*entry)(char *const *f, const buffer *plan);
+} of_plans[] = {
+    {"plan_read", read_plan}, {"plan_destination", destination},           {"plan_row", row},
+    {"plan_start", start},    {"plan_migrated_length", migrated_length}, {"plan_migrate", migrate},
+};
+
 bool replay_plan(const call *line)
 {
     char *const *f = line->fields;
@@ -75,12 +100,11 @@ bool replay_plan(const call *line)
         return step(f);
     if (strcmp(f[0], "plan_length") == 0 || strcmp(f[0], "plan_write") == 0)
         return of_rows(f);
-    bool (*entry)(char *const *, const buffer *) = strcmp(f[0], "plan_read") == 0          ? read_plan
-                                                   : strcmp(f[0], "plan_destination") == 0 ? destination
-                                                   : strcmp(f[0], "plan_row") == 0         ? row
-                                                                                           : start;
+    size_t i = 0;
+    while (strcmp(f[0], of_plans[i].name) != 0)
+        i++;
     buffer plan = lend_bytes(f[1]);
-    bool same = entry(f, &plan) && still(&plan, f[1]);
+    bool same = of_plans[i].entry(f, &plan) && still(&plan, f[1]);
     give_back(&plan);
     return same;
 }

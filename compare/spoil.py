@@ -9,7 +9,7 @@ import sys
 
 WALK = ("plan_start", "plan_step")
 PLANS = ("plan_", "hall_")
-READ = (*WALK, "plan_read ", "plan_destination ", "plan_row ", "hall_read", "hall_destination ")  # entries that read a plan
+READ = (*WALK, "plan_read ", "plan_destination ", "plan_row ", "plan_migrate", "hall_read", "hall_destination ")  # how entries that read a plan begin
 MALFORMED, AT, PLACE = -2, -2, -1  # fields of an answer, from its end: of plan_row, of a walk, and of every plan
 
 

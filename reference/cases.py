@@ -2,8 +2,9 @@
 
     python3 reference/cases.py [small]
 
-`small` leaves out the cases of more than 10,000 permutation runs. Prints `N cases agree`, or each
-difference and exit status 1.
+`small` leaves out the cases of more than 10,000 permutation runs. Prints `N cases agree`, and how
+many were compared through migration, since their plans have padded numbers, or each difference and
+exit status 1.
 """
 
 import json
@@ -12,39 +13,14 @@ from multiprocessing import Pool
 from pathlib import Path
 
 import generator
-import plan
 import sealing
 import sessions
 import sp800_185
-from fips202 import sha3_256
+from plan_vectors import check_plan, check_two_plans, padded
+from vector import data, differences, shown
 
 CASES = Path(__file__).resolve().parent.parent / "vectors" / "cases.jsonl"
 LARGE = 10_000  # permutation runs
-PERIOD = bytes((7 * i + 3) % 256 for i in range(256))
-
-
-def data(value):
-    """The bytes that a case gives in hexadecimal or as a pattern's length."""
-    if "hex" in value:
-        return bytes.fromhex(value["hex"])
-    length = value["pattern"]
-    return (PERIOD * (length // 256 + 1))[:length]
-
-
-def shown(output):
-    """An output as the cases give it: null, hexadecimal, or over 700 bytes its SHA3-256."""
-    if output is None:
-        return None
-    return output.hex() if len(output) <= 700 else {"sha3_256": sha3_256(output).hex()}
-
-
-def differences(expected, where="", **found):
-    """A line for each field in which the reference differs from the case."""
-    return [
-        f"{where}{field}: the case has {expected[field]}, the reference {value}"
-        for field, value in found.items()
-        if expected[field] != value
-    ]
 
 
 def check_cshake256(case):
@@ -109,25 +85,6 @@ def check_session(case):
     return found
 
 
-def check_plan(case):
-    """The cases are older than the places of malformed plans and have none: number and value are compared, here and with two plans."""
-    lent = data(case["plan"])
-    number, rows, _ = plan.read(lent)
-    found = differences(case, number=number, rows=rows)
-    for lookup in case["lookups"]:
-        number, destination, _ = plan.destination(lent, lookup["chute"])
-        where = f"chute {lookup['chute']}: "
-        found += differences(lookup, where, number=number, destination=destination)
-    return found
-
-
-def check_two_plans(case):
-    lent = {"site": data(case["site"]), "house": data(case["house"])}
-    number, which, offset, length, _, _ = plan.row(lent["site"], lent["house"], case["chute"])
-    part = lent[which][offset : offset + length] if which else b""
-    return differences(case, **{"number": number, "from": which, "row": part.hex()})
-
-
 CHECKS = {
     "cshake256": check_cshake256,
     "kmac256": check_keyed,
@@ -157,8 +114,8 @@ def main(arguments):
     for text in found:
         print(text)
     if not found:
-        left_out = len(lines) - len(cases)
-        print(f"{len(cases)} cases agree" + (f", {left_out} large ones left out" if left_out else ""))
+        left_out, through = len(lines) - len(cases), sum(bool(padded(case)) for _, case in cases)
+        print(f"{len(cases)} cases agree, {through} of them through migration" + (f", {left_out} large ones left out" if left_out else ""))
     return 1 if found else 0
 
 

@@ -4,7 +4,7 @@ A hall is kept as a list of its entries, each a destination or again a hall. Eve
 is 9 for a malformed plan, and else 0.
 """
 
-from plan import BYTES_AFTER, CUT, GOES_ON, LARGEST, Breach, judged, read_number, written_number
+from plan import BYTES_AFTER, CUT, EMPTY_GROUP, GOES_ON, LARGEST, Breach, judged, read_number, written_number
 from refusals import PLAN_LIMIT, smallest
 
 LEVELS = 8  # of halls, at most, the outermost included
@@ -15,7 +15,7 @@ CHUTE, HALL = 0, 1  # the kinds
 OTHER_KIND = "a kind is neither 0 nor 1"
 LEVEL_BEYOND = "a hall stands on a level beyond the eighth"
 CHUTE_BEYOND = "a chute of a hall plan is beyond the 4,096th"
-BREACHES = (CUT, GOES_ON, BYTES_AFTER, OTHER_KIND, LEVEL_BEYOND, CHUTE_BEYOND)
+BREACHES = (CUT, GOES_ON, EMPTY_GROUP, BYTES_AFTER, OTHER_KIND, LEVEL_BEYOND, CHUTE_BEYOND)
 
 
 class Reader:

@@ -49,7 +49,7 @@ def kinds(cases):
         cases.line(b"\x01" + written_number(kind) + b"\x00", 1)
     for padded in ("8000", "808000", "8100", "818000", "8200", "828000", "80808000", "81808000"):
         cases.line(bytes.fromhex("01" + padded + "00"), 1)
-        cases.line(bytes.fromhex("820081" + "0001" + padded + "00" + "0007"), 3)
+        cases.line(bytes.fromhex("02" "0101" + padded + "00" + "0007"), 3)
 
 
 def promises(cases):
@@ -78,18 +78,23 @@ EIGHT = "01" * 15  # eight levels of one entry each, up to the entry on the eigh
 NINE = "01" * 15 + "00"  # an entry of the outermost hall that is a level too many
 # Malformed plans beside their good neighbours, for each row of the table in docs/RULES.md, "Places"; the chutes are below.
 PLACES = {
-    "a number cut": ("80", "8080", "808000", "0180", "018080", "01800007", "0100", "010080", "01008080", "0100808000", "0101", "010180", "0200AC0200"),
-    "a number that goes on": ("808080", "81808000", "01808080", "0181808000", "0100808080", "0100FFFFFF7F", "0101808080", "0101808000", "020007808080"),
-    "bytes after the last entry": ("0007", "010007FF", "01010080", "0101010007808080", "808000" "00"),
-    "another kind": ("0102", "010202", "018200", "01828000", "01FFFF7F", "018101", "02000702", "020007820000", "02010002", "020101000702", "02000701" "00"),
-    "a level": (EIGHT, EIGHT + "00", EIGHT + "0007", EIGHT + "01", EIGHT + "0101", EIGHT + "810000", EIGHT + "818000", EIGHT + "02", EIGHT + "8100"),
+    "a number cut": ("80", "8080", "00", "0180", "018080", "010007", "0100", "010080", "01008080", "0100808001", "0101", "010180", "0200AC0200"),
+    "a number that goes on": ("808080", "81808000", "01808080", "0181808000", "0100808080", "0100FFFFFF7F", "0101808080", "010100", "020007808080"),
+    "a number padded": (
+        "8000", "808000", "81000007", "8180000007", "01800007", "01810000", "01820000", "0182800000", "018201", "01008700", "0100878000", "01008701",
+        "0100878001", "01018000", "0101808000", "010181000007", EIGHT + "800007", EIGHT + "8100", EIGHT + "810000", EIGHT + "818000", EIGHT + "0007",
+    ),
+    "bytes after the last entry": ("0007", "010007FF", "01010080", "0101010007808080", "00" "00"),
+    "another kind": ("0102", "010202", "018201", "01828001", "01FFFF7F", "018101", "02000702", "020007820100", "02010002", "020101000702", "02000701" "00"),
+    "a level": (EIGHT, EIGHT + "00", EIGHT + "0007", EIGHT + "01", EIGHT + "0101", EIGHT + "0100", EIGHT + "02", EIGHT + "8101"),
 }
 # Plans with two breaches, of which the first in reading order counts.
 TWO_BREACHES = (
     "0202", "02020080", "0282", "028280", "02828080",  # another kind and a number that is cut, then a kind that is cut or goes on before its value is judged
     "0302000080808000", "03008080800200", "0302008080", "030080808080",  # another kind before a number that goes on, the other way round, and one that is cut
     "01020000", "0100070200", "010080808000", "0100078080",  # a bad entry and bytes after the last, then such bytes that are no entry
-    "020200" + NINE, "02" + NINE + "0200", EIGHT + "818080", EIGHT + "8180", EIGHT + "01808080", EIGHT + "820001",  # a level too many beside the others
+    "020200" + NINE, "02" + NINE + "0200", EIGHT + "818080", EIGHT + "8180", EIGHT + "01808080", EIGHT + "820101",  # a level too many beside the others
+    "02820002", "0202" "8200", "02008700" "808080", "02008080" "808700", "010007" "8000", "FFFF00", "81000200", "02" + NINE + "8000", "028000" + NINE,  # padded
     "FFFF7F02", "FFFF7F80", "FFFFFF02", "0101FFFF7F02",  # more entries promised than could follow, and a bad one
 )
 
@@ -103,8 +108,8 @@ def places(cases):
     for data in TWO_BREACHES:
         cases.line(bytes.fromhex(data), 2)
     cases.heading("a chute too many")
-    full = bytes(2 * 4_096)  # 4,096 chutes; what follows is another, its kind in up to three groups, or a level too many before it or after it
-    for count, rest in ((4_097, "00"), (4_097, "80"), (4_098, "800007" + NINE), (4_098, NINE + "80800007")):
+    full = bytes(2 * 4_096)  # 4,096 chutes; what follows is another, its kind also cut or padded, or a level too many before it or after it
+    for count, rest in ((4_097, "00"), (4_097, "80"), (4_097, "800007"), (4_098, "0007" + NINE), (4_098, NINE + "0007")):
         cases.line(written_number(count) + full + bytes.fromhex(rest), 4_097)
 
 
@@ -115,7 +120,7 @@ def building(chutes):
 
 def many(cases):
     cases.heading("many chutes")
-    for halls in (building(4_096), [*building(4_096), []], [*building(4_096), 0], [0] * 4_096, [[[0] * 4_095], 7], [[[0] * 4_095], 7, 7]):
+    for halls in (building(4_096), [*building(4_096), []], [*building(4_096), 0], [0] * 4_096, [[[0] * 4_095], 7]):
         cases.line(hall.bytes_of(halls), len(list(hall.entries_in(halls))))
     cases.heading("long")
     longest = [[[]] * 128, *[[]] * 32_637]

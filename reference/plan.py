@@ -17,9 +17,10 @@ LARGEST = 2 ** (7 * GROUPS) - 1  # destination: 2,097,151
 # The rows of the table of places that a chute plan can meet, in the table's words.
 CUT = "a number ends before its last group"
 GOES_ON = "a number goes on after its third group"
+EMPTY_GROUP = "a number is in more groups than it needs"
 TOO_MANY_ROWS = "the number of rows is above 4,096"
 BYTES_AFTER = "bytes follow the last row, or the last entry"
-BREACHES = (CUT, GOES_ON, TOO_MANY_ROWS, BYTES_AFTER)
+BREACHES = (CUT, GOES_ON, EMPTY_GROUP, TOO_MANY_ROWS, BYTES_AFTER)
 
 
 class Breach(Exception):
@@ -50,27 +51,40 @@ class Reading(NamedTuple):
         return self.breach.place if self.breach else 0
 
 
-def read_number(plan, at):
-    """The number that starts at `at`, as (value, place after it). More groups than needed are read too."""
-    value = 0
-    for group in range(GROUPS):
-        if at + group == len(plan):
+def groups_at(plan, at):
+    """The groups of the number that starts at `at`, lowest first; the top bit of a byte tells that another follows."""
+    groups = []
+    while len(groups) < GROUPS:
+        if at + len(groups) == len(plan):
             raise Breach(CUT, len(plan))
-        byte = plan[at + group]
-        value += (byte & 0x7F) << (7 * group)
+        byte = plan[at + len(groups)]
+        groups.append(byte & 0x7F)
         if byte < 0x80:
-            return value, at + group + 1
+            return groups
     raise Breach(GOES_ON, at + GROUPS - 1)
 
 
-def rows_of(plan):
-    """The plan's rows in order; the first breach ends the reading."""
-    count, at = read_number(plan, 0)
+def value_of(groups):
+    """The number that these groups of seven bits make."""
+    return sum(group << (7 * place) for place, group in enumerate(groups))
+
+
+def read_number(plan, at):
+    """The number that starts at `at`, as (value, place after it). It has no group more than it needs: an empty one is never the last, unless it is alone."""
+    groups = groups_at(plan, at)
+    if len(groups) > 1 and groups[-1] == 0:
+        raise Breach(EMPTY_GROUP, at + len(groups) - 1)
+    return value_of(groups), at + len(groups)
+
+
+def rows_of(plan, number_at=read_number):
+    """The plan's rows in order, each number as `number_at` reads it; the first breach ends the reading."""
+    count, at = number_at(plan, 0)
     if count > ROWS:
         raise Breach(TOO_MANY_ROWS, 0)
     rows = []
     for _ in range(count):
-        destination, after = read_number(plan, at)
+        destination, after = number_at(plan, at)
         rows.append(Row(destination, at, after - at))
         at = after
     if at < len(plan):
@@ -128,18 +142,21 @@ def row(site, house, chute):
 
 def written_number(value):
     """The number in the fewest groups of seven bits, lowest first, top bit set when another follows."""
-    groups = bytearray()
-    while value >= 0x80:
-        groups.append(value & 0x7F | 0x80)
-        value >>= 7
-    return bytes(groups) + bytes([value])
+    if value < 0x80:
+        return bytes([value])
+    return bytes([value & 0x7F | 0x80]) + written_number(value >> 7)
+
+
+def bytes_of(destinations):
+    """The plan of these rows, however many and great they are."""
+    return b"".join(map(written_number, [len(destinations), *destinations]))
 
 
 def write(destinations, length):
     """(number, plan or None, place): 9 if the rows break the rules or do not fill `length` bytes exactly; nothing is read, so the place is 0."""
     if len(destinations) > ROWS or any(value > LARGEST for value in destinations):
         return 9, None, 0
-    plan = b"".join(written_number(value) for value in [len(destinations), *destinations])
+    plan = bytes_of(destinations)
     return (0, plan, 0) if len(plan) == length else (9, None, 0)
 
 

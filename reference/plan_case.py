@@ -1,6 +1,7 @@
 """A case of the program plan_cases: how it is written down, and what it must be answered with."""
 import functools
 
+import migration
 import plan
 
 plan.reading = functools.lru_cache(maxsize=16)(plan.reading)  # the same plan is asked for thousands of chutes
@@ -15,6 +16,11 @@ def write_plan(rows):
     """The plan of these rows, None where they break the plan's rules."""
     length = sum(len(plan.written_number(value)) for value in [len(rows), *rows])
     return plan.write(rows, length)[1]
+
+
+def padded_number(value):
+    """The number in three groups, more than it may need."""
+    return bytes([value & 127 | 128, value >> 7 & 127 | 128, value >> 14])
 
 
 def added(total, value):
@@ -87,6 +93,16 @@ class Cases:
         for lent in (needed, needed + 1, max(needed - 1, 0), 0):
             number, filled, place = plan.write(rows, lent)
             text += ANSWER % (number, summed((filled or b"").ljust(BUFFER, UNTOUCHED)), place)
+        self.out(text)
+
+    def migrated(self, data):
+        """A plan by the old rule, written by the new one into buffers of the length it takes, one byte more, one less, and its own length, if there is room."""
+        self.put(b"m", data)
+        number, needed, place = migration.migrated_length(data)
+        text = ANSWER % (number, needed, place)
+        for lent in (needed, needed + 1, max(needed - 1, 0), len(data)):
+            number, filled, place = migration.migrate(data, lent)
+            text += ANSWER % (number, summed((filled or b"").ljust(BUFFER, UNTOUCHED)), place) if lent <= BUFFER else ""
         self.out(text)
 
     def walked(self, data):

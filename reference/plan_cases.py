@@ -8,7 +8,7 @@ import sys
 from pathlib import Path
 
 import plan
-from plan_case import Cases, write_plan
+from plan_case import Cases, padded_number, write_plan
 
 SAMPLE_ROWS = [0, 1, 127, 128, 300, 16383, 16384, 2097151]
 ROOM = 262_144  # bytes of input that the program reads
@@ -39,9 +39,17 @@ def damaged(cases):
         cases.line(bytes([first]))
 
 
+# Numbers in more groups than they need beside those in as many as they do: alone, as rows, and as numbers of rows.
+PADDED = (
+    "00", "8000", "808000", "07", "8700", "878000", "8780",
+    "0107", "018700", "018701", "01878000", "01878001", "0187", "018780", "01878080", "018000", "01808000", "01FFFF7F", "01FFFF00", "01FF00", "017F",
+    "03070707", "8300070707", "838000070707", "8300", "810007", "81800007", "8120", "81A000", "8020", "80A000", "80A00007",
+)
+
+
 def edges(cases):
     cases.heading("padded")
-    for data in ("018700", "01878000", "01878080", "01FFFF7F", "01808000", "810007", "81800007", "8000", "808000"):
+    for data in PADDED:
         cases.line(bytes.fromhex(data))
     cases.heading("fourth group")
     for data in ("0180808000", "01FFFFFF7F", "80808000", "8180800007", "01FFFF80", "01FFFFFF"):
@@ -53,8 +61,9 @@ def edges(cases):
 
 # Malformed plans beside their good neighbours, for each row of the table in docs/RULES.md, "Places".
 PLACES = {
-    "a number cut": ("80", "8080", "808000", "02", "0207", "020780", "02078080", "0207808000", "02AC02", "02AC0207", "8200", "828000", "82800007AC"),
-    "a number that goes on": ("808080", "80808080", "808000", "FFFFFF00", "01808080", "01FFFFFFFF", "01808000", "0207808080", "020780808000", "0207808000"),
+    "a number cut": ("80", "8080", "808000", "02", "0207", "020780", "02078080", "0207808000", "02AC02", "02AC0207", "0207808001"),
+    "a number that goes on": ("808080", "80808080", "808000", "FFFFFF00", "01808080", "01FFFFFFFF", "01808000", "0207808080", "020780808000", "0207808001"),
+    "a number padded": ("8200", "828000", "82800007AC", "0207808000", "02AC0207", "02AC8200", "02AC820007", "03AC02870007", "8200AC0207"),
     "too many rows": ("8120", "812007", "81A000", "FFFF7F", "808001", "8020", "80A000"),
     "bytes after": ("0007", "800007", "01078080", "0207AC0207", "0207AC02", "01808000FF", "0080808000"),
 }
@@ -63,6 +72,7 @@ TWO_BREACHES = (
     "812080808000", "8120808080", "812080", "81A00080", "FFFF7FFF", "80A080", "818080",  # too many rows that are bad too; a number of rows that goes on
     "038080800007", "0307808080", "0380808080", "030780", "03FFFFFF0780", "0307FFFFFF80",  # a row that goes on, and one that is cut
     "018080800007", "02078080800007", "0107808080", "010780",  # a bad row and bytes after the last, then such bytes that are no number
+    "018700" "07", "0107" "8000", "028700" "808080", "02808080" "8700", "028700" "80", "82008700", "81A000" "8700", "FFFF00",  # a padded number
 )
 
 
@@ -82,7 +92,7 @@ def many_rows(cases):
     cases.heading("many rows")
     body = bytes((7 * i + 3) % 128 for i in range(4098))
     for count in (4095, 4097, 4096):
-        for size in (4095, 4096, 4097, 4098):
+        for size in (count - 1, count, count + 1):
             cases.line(plan.written_number(count) + body[:size])
     cases.summed(plan.written_number(4096) + body[:4096], 4100)
     cases.end()
@@ -102,7 +112,7 @@ def pairs(cases):
         for chute in (0, 1, 2, 3, 4, 5, 4096, 2**32 - 1, 2**32 + 1):
             cases.pair(first, second, chute)
     cases.heading("malformed pairs")
-    malformed = [bytes.fromhex(data) for data in ("0307AC", "0207808080", "812007", "02AC020700", "")]
+    malformed = [bytes.fromhex(data) for data in ("0307AC", "0207808080", "018700", "812007", "02AC020700", "")]
     for first in (site, none, long, *malformed):
         for second in (house, none, long, *malformed):
             if first in malformed or second in malformed:
@@ -121,15 +131,31 @@ def written(cases):
 def walked(cases):
     """Asks of a walker, one after another: on a refused plan its number and place, past the last row 10."""
     cases.heading("walked")
-    for data in ("0307AC0200", "00", write_plan(SAMPLE_ROWS).hex(), "018700", "0180808000", "", "00" * 65537, "0000"):
+    for data in ("0307AC0200", "00", write_plan(SAMPLE_ROWS).hex(), "0107", "018700", "810007", "0180808000", "", "00" * 65537, "0000"):
         cases.walked(bytes.fromhex(data))
     for data in ("0307AC", "0207808080", "808080", "8120", "0307AC020007", "00" * 65536):
         cases.walked(bytes.fromhex(data))
 
 
+def migrated(cases):
+    """Plans by the old rule: padded in all numbers, in some or in none, and those that it refuses too."""
+    cases.heading("migrated")
+    numbers = [len(SAMPLE_ROWS), *SAMPLE_ROWS]
+    for data in (write_plan(SAMPLE_ROWS), b"".join(map(padded_number, numbers))):
+        cases.migrated(data)
+    for at in range(len(numbers)):
+        cases.migrated(b"".join((padded_number if i == at else plan.written_number)(value) for i, value in enumerate(numbers)))
+    for data in ("0307AC0200", "", *PADDED, *PLACES["bytes after"], *TWO_BREACHES):
+        cases.migrated(bytes.fromhex(data))
+    rows = [(i * 511) % 128 ** (i % 3 + 1) for i in range(4096)]
+    wide = b"".join(bytes([value | 128, 0]) if value < 128 else plan.written_number(value) for value in rows)  # padded where one group is enough
+    for data in (padded_number(4096) + wide, bytes(65536), bytes(65537)):
+        cases.migrated(data)
+
+
 def main(arguments):
     cases = Cases()
-    for section in (examples, damaged, edges, places, many_rows, pairs, written, walked):
+    for section in (examples, damaged, edges, places, many_rows, pairs, written, walked, migrated):
         section(cases)
     made = cases.count.to_bytes(4, "little") + cases.input
     if len(made) > ROOM:

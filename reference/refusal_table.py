@@ -14,6 +14,7 @@ from itertools import product
 
 import generator
 import hall
+import migration
 import plan
 import sealing
 import sessions
@@ -37,11 +38,14 @@ TAG = [(SEALED_TAG, 0), (SEALED_TAG[:16], 0), (SEALED_TAG[:15], 7), (b"", 7), (b
 OPEN_LABEL = [(b"label", 0), (b"other", 8), (OVER, 5)]
 GENERATORS = {"cSHAKE generator": generator.CSHAKE, "KMAC generator": generator.KMAC}
 GOOD_PLAN, LONG_PLAN = bytes.fromhex("0307AC0200"), bytes(65_537)
-BAD_PLANS = {b"": 0, b"\x01": 1, b"\x00\x00": 1, b"\x01\x80\x80\x80": 3, b"\x81\x20\x07": 0}  # with their places
+OLD_PLANS = [bytes.fromhex(lent) for lent in ("8300" "8700" "AC02" "8000", "03" "07" "AC8200" "00")]  # the good one by the old rule
+BAD_BY_BOTH = {b"": 0, b"\x01": 1, b"\x00\x00": 1, b"\x01\x80\x80\x80": 3, b"\x81\x20\x07": 0}  # with their places, as those below
+BAD_PLANS = BAD_BY_BOTH | {OLD_PLANS[0]: 1, OLD_PLANS[1]: 4, b"\x81\xa0\x00": 2}
 LENT_PLAN = [(GOOD_PLAN, 0), *((lent, 9) for lent in BAD_PLANS), (LONG_PLAN, 5)]
+OLD_PLAN = [*((lent, 0) for lent in (GOOD_PLAN, *OLD_PLANS)), *((lent, 9) for lent in BAD_BY_BOTH), (LONG_PLAN, 5)]
 CHUTE = [(1, 0), (3, 0), (0, 10), (4, 10), (2**32 - 1, 10)]
 GOOD_HALLS = bytes.fromhex("02010200" "0700AC02" "0000")  # a hall of two chutes, and a chute: four entries, 10 bytes
-BAD_HALLS = {b"": 0, b"\x01": 1, b"\x00\x00": 1, b"\x01\x02\x00": 1, b"\x01" * 16 + b"\x00": 15, b"\x81\x20" + bytes(2 * 4_097): 8_194}
+BAD_HALLS = {b"": 0, b"\x01": 1, b"\x00\x00": 1, b"\x01\x02\x00": 1, b"\x01" * 16 + b"\x00": 15, b"\x81\x20" + bytes(2 * 4_097): 8_194, b"\x01\x82\x00": 2}
 LENT_HALLS = [(GOOD_HALLS, 0), *((lent, 9) for lent in BAD_HALLS), (LONG_PLAN, 5)]
 FOUR = [(4, 0), (0, 9), (3, 9), (5, 9)]
 OUTER = [(2, 0), (1, 9), (3, 9), (2_097_152, 9), (2**32 + 2, 9)]
@@ -75,9 +79,10 @@ def empty_halls_length(count, more):
     return hall.length(count + more, [1] * count, [0] * count)
 
 
-def placed(*blank):
+def placed(*blank, places=None):
     """What follows the number of a refusal by the arguments' values: this, and last the place of the plan if that is malformed."""
-    return lambda number, values: (*blank, (BAD_PLANS | BAD_HALLS).get(values[0], 0) if number == 9 else 0)
+    known = places or BAD_PLANS | BAD_HALLS
+    return lambda number, values: (*blank, known.get(values[0], 0) if number == 9 else 0)
 
 
 def row_refusal(number, values):
@@ -124,6 +129,8 @@ PLANS = {
     "destination": (plan.destination, placed(0), [LENT_PLAN, CHUTE]),
     "row": (plan.row, row_refusal, [LENT_PLAN, LENT_PLAN, CHUTE]),
     "write": (written, (None, 0), [[(2_097_151, 0), (2_097_152, 9)], [(5, 0), (4, 9), (6, 9)]]),
+    "migrated length": (migration.migrated_length, placed(0, places=BAD_BY_BOTH), [OLD_PLAN]),
+    "migrate": (migration.migrate, placed(None, places=BAD_BY_BOTH), [OLD_PLAN, [(5, 0), (0, 9), (4, 9), (6, 9)]]),
     "write, too many": (plan.write, (None, 0), [[([0] * 4_097, 9)], [(4_099, 9)]]),
 }
 HALLS = {
