@@ -290,8 +290,7 @@ hf_row hf_plan_row(const uint8_t *site, size_t site_length, const uint8_t *house
 /* How many bytes the plan with these destinations takes. Refuses with 9 where there are more than 4,096 rows or one is greater than 2,097,151. */
 hf_length hf_plan_length(const uint32_t *rows, size_t rows_length) HF_NONNULL;
 
-/* Writes the plan with these destinations into out, which must have exactly the length that hf_plan_length answers.
-   Refuses with 9. */
+/* Writes the plan with these destinations into out, which must have exactly the length that hf_plan_length answers. Refuses with 9. */
 hf_written hf_plan_write(const uint32_t *rows, size_t rows_length, uint8_t *out, size_t out_length) HF_NONNULL;
 
 /* How many bytes the plan takes that hf_plan_migrate writes. The plan is read by the old rule, which differs in one thing: a number may stand in more groups
@@ -299,7 +298,7 @@ hf_written hf_plan_write(const uint32_t *rows, size_t rows_length, uint8_t *out,
 hf_length hf_plan_migrated_length(const uint8_t *plan, size_t plan_length) HF_NONNULL;
 
 /* Reads a plan by the old rule and writes the one with the same rows, each number in the fewest groups, into out, which must have exactly the length that
-   hf_plan_migrated_length answers. A good plan is written as it is. There is none for hall plans. Refuses with 5, 9: the last also, at the place 0, where only
+   hf_plan_migrated_length answers. A good plan is written as it is. Hall plans are not migrated. Refuses with 5, 9: the last also, at the place 0, where only
    the length of out is wrong. */
 hf_written hf_plan_migrate(const uint8_t *plan, size_t plan_length, uint8_t *out, size_t out_length) HF_NONNULL;
 
@@ -352,8 +351,8 @@ hf_halls hf_hall_read_into(const uint8_t *plan, size_t plan_length, uint8_t *kin
    has is cut to a good one. */
 hf_length hf_hall_length(uint64_t outer, const uint8_t *kinds, size_t kinds_length, const uint32_t *values, size_t values_length) HF_NONNULL;
 
-/* Writes the plan with these halls into out, which must have exactly the length that hf_hall_length answers.
-   Refuses with 5, 9: the first where out is longer than any plan, whatever the lists are. */
+/* Writes the plan with these halls into out, which must have exactly the length that hf_hall_length answers. Refuses with 5, 9: the first where out is
+   longer than any plan, whatever the lists are. */
 hf_written hf_hall_write(uint64_t outer, const uint8_t *kinds, size_t kinds_length, const uint32_t *values, size_t values_length, uint8_t *out,
                          size_t out_length) HF_NONNULL;
 
