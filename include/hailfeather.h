@@ -24,8 +24,8 @@
  *       sealing or opening is not as long as the text; or a session that could not start was asked for one byte or more
  *    7  a tag is shorter than 16 bytes or longer than 64
  *    8  the tag does not match
- *    9  the plan is malformed; or rows or halls to be written break the plan's rules or do not fill the lent buffer exactly; or the lists that halls are
- *       to be read into are not exactly as long as there are entries
+ *    9  the plan is malformed; or rows or halls to be written break the plan's rules; or rows, halls or a migrated plan do not fill the lent buffer exactly;
+ *       or the lists that halls are to be read into are not exactly as long as there are entries
  *   10  the plan has no such chute
  * On a refusal every lent buffer and list is as it was before, a session or a generator is handed back as it was passed in, and a count, a destination, a
  * length and a number of rows, entries or chutes are 0. So a return value may be put in place of the old one whatever its number is. Three exceptions: the
@@ -45,8 +45,8 @@
 extern "C" {
 #endif
 
-/* The version of this header, 0.2.0; hf_version tells that of the archive, and the two are to be equal. */
-#define HF_VERSION 200u
+/* The version of this header, 0.3.0; hf_version tells that of the archive, and the two are to be equal. */
+#define HF_VERSION 300u
 uint32_t hf_version(void);
 
 /* Nothing to lend: a pointer that is not null, for a length of 0. */
@@ -212,18 +212,22 @@ hf_kmac_draw hf_kmac_generator_draw(hf_kmac_generator generator, const uint8_t *
 
 /* ---- Chute plans ----
  * A plan is the number of its rows (at most 4,096), then the destination of each, then nothing more. A number stands in one to three groups of seven bits,
- * lowest group first, with the top bit of a byte set when another follows: 0 to 2,097,151. Chutes count from 1; destination 0 sends the parcel round again.
- * The plan 03 07 AC 02 00 has three rows, with destinations 7, 300 and 0. Every function reads its plan whole, so a plan that is bad anywhere is refused
- * whichever chute is asked for; the one exception is hf_plan_step, which relies on hf_plan_start.
+ * lowest group first, with the top bit of a byte set when another follows: 0 to 2,097,151. It stands in the fewest groups that hold it: 7 is 07, and 87 00,
+ * whose last group is empty, is malformed; a single 00 is 0. So two good plans with equal rows are equal bytes. Chutes count from 1; destination 0 sends the
+ * parcel round again. The plan 03 07 AC 02 00 has three rows, with destinations 7, 300 and 0. Every function reads its plan whole, so a plan that is bad
+ * anywhere is refused whichever chute is asked for; the one exception is hf_plan_step, which relies on hf_plan_start. hf_plan_migrate writes an old copy, in
+ * which numbers may have empty groups, as such a plan.
  *
  * Places. Every answer on plans, flat or of halls, has a place: with the number 9 for a malformed plan the byte, from 0, of the first breach in reading order,
  * each number being judged once it is read; else 0. The place is
  *    that of the first missing byte, which is the plan's length, where a number ends before its last group;
  *    that of a number's third byte where it goes on after that one;
+ *    that of a number's last group where it is empty and others stand before it, whatever else the number's value breaks;
  *    0 where there are more than 4,096 rows;
  *    that of the first byte after the last row, or after the last entry;
  *    in a hall plan that of the first byte of a kind which is neither 0 nor 1, or of a hall beyond the eighth level, or of a chute beyond the 4,096th.
- * With 9 for rows or halls to be measured or written, or for lists of the wrong length for a good hall plan, it is 0. */
+ * With 9 for rows or halls to be measured or written, for lists of the wrong length for a good hall plan, or for a buffer of the wrong length for a migrated
+ * plan, it is 0. */
 typedef struct {
     size_t place;
     uint32_t rows; /* 0 on a refusal */
@@ -250,12 +254,12 @@ typedef struct {
 
 typedef struct {
     size_t length; /* in bytes; 0 on a refusal */
-    size_t place;  /* 0, since no plan is read */
+    size_t place;  /* in the plan to be migrated; 0 for rows and halls, since no plan is read */
     uint8_t number;
 } hf_length;
 
 typedef struct {
-    size_t place; /* 0, since no plan is read */
+    size_t place; /* in the plan to be migrated; 0 for rows and halls, since no plan is read */
     uint8_t number;
 } hf_written;
 
@@ -286,9 +290,17 @@ hf_row hf_plan_row(const uint8_t *site, size_t site_length, const uint8_t *house
 /* How many bytes the plan with these destinations takes. Refuses with 9 where there are more than 4,096 rows or one is greater than 2,097,151. */
 hf_length hf_plan_length(const uint32_t *rows, size_t rows_length) HF_NONNULL;
 
-/* Writes the plan with these destinations, each number in the fewest groups, into out, which must have exactly the length that hf_plan_length answers.
-   Refuses with 9. */
+/* Writes the plan with these destinations into out, which must have exactly the length that hf_plan_length answers. Refuses with 9. */
 hf_written hf_plan_write(const uint32_t *rows, size_t rows_length, uint8_t *out, size_t out_length) HF_NONNULL;
+
+/* How many bytes the plan takes that hf_plan_migrate writes. The plan is read by the old rule, which differs in one thing: a number may stand in more groups
+   than it needs, though not in more than three. Refuses with 5, 9: the last where the plan is malformed by the old rule too, at its place by that rule. */
+hf_length hf_plan_migrated_length(const uint8_t *plan, size_t plan_length) HF_NONNULL;
+
+/* Reads a plan by the old rule and writes the one with the same rows, each number in the fewest groups, into out, which must have exactly the length that
+   hf_plan_migrated_length answers. A good plan is written as it is. Hall plans are not migrated. Refuses with 5, 9: the last also, at the place 0, where only
+   the length of out is wrong. */
+hf_written hf_plan_migrate(const uint8_t *plan, size_t plan_length, uint8_t *out, size_t out_length) HF_NONNULL;
 
 /* A walk over the rows one after another. hf_plan_start reads the plan whole; its answer is kept beside the plan, which must not change meanwhile:
        hf_cursor walk = hf_plan_start(plan, plan_length);
@@ -339,8 +351,8 @@ hf_halls hf_hall_read_into(const uint8_t *plan, size_t plan_length, uint8_t *kin
    has is cut to a good one. */
 hf_length hf_hall_length(uint64_t outer, const uint8_t *kinds, size_t kinds_length, const uint32_t *values, size_t values_length) HF_NONNULL;
 
-/* Writes the plan with these halls, each number in the fewest groups, into out, which must have exactly the length that hf_hall_length answers.
-   Refuses with 5, 9: the first where out is longer than any plan, whatever the lists are. */
+/* Writes the plan with these halls into out, which must have exactly the length that hf_hall_length answers. Refuses with 5, 9: the first where out is
+   longer than any plan, whatever the lists are. */
 hf_written hf_hall_write(uint64_t outer, const uint8_t *kinds, size_t kinds_length, const uint32_t *values, size_t values_length, uint8_t *out,
                          size_t out_length) HF_NONNULL;
 

@@ -41,7 +41,7 @@ class Hall(unittest.TestCase):
         self.assertRaisesRegex(ValueError, "chute is negative", hall.destination, PLAN, -1)
         self.assertRaises(TypeError, hall.destination, PLAN, 1.0)
         self.assertEqual(hall.read(bytes([0])), hall.Halls(0, [], []))
-        self.assertEqual(hall.nested(bytes([0x81, 0, 0x81, 0x80, 0, 0x81, 0, 0x80, 0x80, 0, 0x87, 0])), [[7]])
+        self.assertEqual(hall.nested(bytes([1, 1, 1, 0, 7])), [[7]])
         self.assertEqual(hall.destination(hall.write_nested([[[]], [[5, []], 6]]), 2), 6)
 
     def test_malformed(self) -> None:
@@ -50,6 +50,9 @@ class Hall(unittest.TestCase):
         bad = ([1, 2, 0], [1, 0x80, 2, 0], [1, 0x81, 2, 0], [0, 0], [*PLAN, 0], [0xFF, 0xFF, 0x7F], [1, 1, 0xFF, 0xFF, 0x7F], [1, 0, 0x80, 0x80, 0x80, 0])
         for one in bad:
             self.unread(9, bytes(one))
+        for at, number in enumerate(PLAN[:5]):  # each number with an empty group after it
+            self.unread(9, PLAN[:at] + bytes([number | 128, 0]) + PLAN[at + 1 :])
+            self.unread(9, PLAN[:at] + bytes([number | 128, 128, 0]) + PLAN[at + 1 :])
         self.unread(9, bytes(65_536))
         self.unread(5, bytes(65_537))
         self.unread(5, bytes(1 << 25))

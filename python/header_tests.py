@@ -28,7 +28,7 @@ class Header(unittest.TestCase):
             name: (TYPES[result], [declared(parameter.strip()) for parameter in parameters.split(",") if parameter != "void"])
             for result, name, parameters in re.findall(r"^(\w+) (hf_\w+)\(([^)]*)\)(?: HF_NONNULL)?;", HEADER, flags=re.MULTILINE)
         }
-        self.assertEqual(len(found), 29)
+        self.assertEqual(len(found), 31)
         self.assertEqual({name: (result, list(arguments)) for name, (result, arguments) in FUNCTIONS.items()}, found)
         for name, (result, arguments) in found.items():
             function = getattr(functions, name)

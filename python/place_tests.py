@@ -53,24 +53,38 @@ class Places(unittest.TestCase):
         self.malformed(b"\x81\x20" + bytes(4_097), 0)
         self.malformed(b"\x80\x20" + bytes(4_097), 4_098)
         self.malformed(LONG[1:], 1)
-        self.assertEqual([plan.rows(bytes.fromhex(good)) for good in ("0307ac0200", "808000", "01808000")], [3, 0, 1])
+        self.assertEqual([plan.rows(bytes.fromhex(good)) for good in ("0307ac0200", "00", "018001", "01808001")], [3, 0, 1, 1])
         self.assertEqual(plan.rows(b"\x80\x20" + bytes(4_096)), 4_096)
 
     def test_hall_plans(self) -> None:
         for length in range(len(HALLS)):
             self.malformed_halls(HALLS[:length], length)
-        for bad, place in (("01808080", 3), ("010080808000", 4), ("0000", 1), ("010200", 1), ("01800100", 1), ("02000782800000", 3)):
+        for bad, place in (("01808080", 3), ("010080808000", 4), ("0000", 1), ("010200", 1), ("01800100", 1), ("02000782800100", 3)):
             self.malformed_halls(bytes.fromhex(bad), place)
         self.malformed_halls(HALLS + b"\x00", 10)
-        for entry in (b"\x01\x00", b"\x01", b"\x81\x80\x00\x00", b"\x01\x80\x80\x80"):
+        for entry in (b"\x01\x00", b"\x01", b"\x01\x80\x00", b"\x01\x80\x80\x80"):
             self.malformed_halls(EIGHT + entry, 15)
-        for entry in (b"\x00\x00", b"\x00", b"\x80\x80\x00\x00", b"\x00\x80\x80\x80"):
+        for entry in (b"\x00\x00", b"\x00", b"\x00\x80\x00", b"\x00\x80\x80\x80"):
             self.malformed_halls(FULL + entry, len(FULL))
         self.assertEqual([hall.summary(good).chutes for good in (EIGHT + b"\x00\x07", FULL + b"\x01\x00")], [1, 4_096])
 
+    def test_padded_numbers(self) -> None:
+        """A number in more groups than it needs has the place of its last group, whatever its value breaks."""
+        for bad, place in (("8000", 1), ("808000", 2), ("830007ac0200", 1), ("018000", 2), ("018700", 2), ("01878000", 3), ("0307ac820000", 4)):
+            self.malformed(bytes.fromhex(bad), place)
+        self.malformed(bytes.fromhex("81a000"), 2)  # 4,097 rows
+        self.malformed(bytes.fromhex("01870007"), 2)  # and a byte after the last row
+        for number in (b"\x80\x00", b"\x80\x80\x00", b"\x81\x00", b"\x82\x00", b"\x87\x80\x00"):
+            for before in (b"", b"\x01", b"\x01\x00", b"\x01\x01"):  # the outermost number, a kind, a destination, a hall's number of entries
+                self.malformed_halls(before + number, len(before + number) - 1)
+        self.malformed_halls(EIGHT + b"\x81\x00\x00", 16)
+        self.malformed_halls(FULL + b"\x80\x00\x00", len(FULL) + 1)
+        for good in ("010000", "01008001", "0100808001"):
+            self.assertEqual(hall.summary(bytes.fromhex(good)).chutes, 1)
+
     def test_two_breaches(self) -> None:
         """The first breach in reading order counts, and a number is judged once it is read."""
-        for bad, place in (("0280808080", 3), ("0280800080", 5), ("018080800707", 3), ("8120808080", 0), ("81a0", 2), ("ffffff7f", 2)):
+        for bad, place in (("0280808080", 3), ("0280800180", 5), ("0280800080", 3), ("018080800707", 3), ("8120808080", 0), ("81a0", 2), ("ffffff7f", 2)):
             self.malformed(bytes.fromhex(bad), place)
         for bad, place in (("010280", 1), ("0182", 2), ("03020000808080", 1), ("03008080800200", 4), ("020007030009", 3)):
             self.malformed_halls(bytes.fromhex(bad), place)
@@ -83,6 +97,7 @@ class Places(unittest.TestCase):
         self.told(10, None, None, hall.destination, HALLS, 4)
         self.told(9, None, None, plan.write, [2_097_152])
         self.told(9, None, None, plan.write, [0] * 4_097)
+        self.told(5, None, None, plan.migrate, LONG)
         self.told(9, None, None, hall.write, 1, [2], [0])
         self.told(5, None, None, hall.write_nested, [[]] * 32_767)
 

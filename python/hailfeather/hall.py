@@ -46,6 +46,10 @@ def summary(plan: BytesLike) -> Summary:
     Traceback (most recent call last):
     ...
     hailfeather.refusal.Refusal: refused 9 at byte 1: the plan is malformed
+    >>> summary(bytes([1, 129, 0, 0]))  # 1 is 01, not 81 00
+    Traceback (most recent call last):
+    ...
+    hailfeather.refusal.Refusal: refused 9 at byte 2: the plan is malformed
     """
     answer = functions.hf_hall_read(*lent("plan", plan))
     accept_plan("hall_read", answer)
@@ -83,7 +87,7 @@ def read(plan: BytesLike) -> Halls:
 
 
 def write(outer: int, kinds: Sequence[int], values: Sequence[int]) -> bytes:
-    """The plan with these halls, each number in the fewest groups. Refuses with 5, 9.
+    """The plan with these halls. Refuses with 5, 9.
 
     >>> write(2, [HALL, CHUTE, CHUTE, CHUTE], [2, 7, 300, 0]) == write_nested([[7, 300], 0])
     True

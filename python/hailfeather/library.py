@@ -8,7 +8,7 @@ BYTES = POINTER(c_uint8)
 LENT = [BYTES, c_size_t]  # a pointer to bytes, followed by their number
 DESTINATIONS = [POINTER(c_uint32), c_size_t]
 HALLS = [*LENT, POINTER(c_uint32), c_size_t]  # kinds and values
-VERSION = 200  # HF_VERSION of include/hailfeather.h, 0.2.0
+VERSION = 300  # HF_VERSION of include/hailfeather.h, 0.3.0
 
 FUNCTIONS = {
     "hf_version": (c_uint32, []),
@@ -33,6 +33,8 @@ FUNCTIONS = {
     "hf_plan_row": (structs.RowLocation, [*LENT * 2, c_uint64]),
     "hf_plan_length": (structs.Length, DESTINATIONS),
     "hf_plan_write": (structs.Written, [*DESTINATIONS, *LENT]),
+    "hf_plan_migrated_length": (structs.Length, LENT),
+    "hf_plan_migrate": (structs.Written, LENT * 2),
     "hf_plan_start": (structs.Cursor, LENT),
     "hf_plan_step": (structs.Walk, [*LENT, structs.Cursor]),
     "hf_hall_read": (structs.HallSummary, LENT),

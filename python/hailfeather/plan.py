@@ -1,11 +1,13 @@
-"""Chute plans: how many rows one has, where a chute sends its parcels, and plans written and walked.
+"""Chute plans: how many rows one has, where a chute sends its parcels, plans written and walked, and old copies migrated.
 
 >>> written = write([7, 300, 0])
 >>> written.hex(" "), rows(written), list(walk(written))
 ('03 07 ac 02 00', 3, [7, 300, 0])
 
-The Refusal of a malformed plan tells the place of the first breach in reading order: of the first missing byte, which is the plan's length, where a number
-ends too early; of a number's third byte where it goes on after that; 0 where there are more than 4,096 rows; and of the first byte after the last row.
+A number stands in the fewest groups of seven bits that hold it: 7 is 07, and 87 00, whose last group is empty, is malformed. So two good plans with equal
+rows are equal bytes. The Refusal of a malformed plan tells the place of the first breach in reading order: of the first missing byte, which is the plan's
+length, where a number ends too early; of a number's third byte where it goes on after that; of a number's last group where it is empty and others stand
+before it, whatever the number's value breaks; 0 where there are more than 4,096 rows; and of the first byte after the last row.
 """
 
 from ctypes import c_uint32, string_at
@@ -36,6 +38,10 @@ def rows(plan: BytesLike) -> int:
     Traceback (most recent call last):
     ...
     hailfeather.refusal.Refusal: refused 9 at byte 3: the plan is malformed
+    >>> rows(bytes([1, 135, 0]))  # 7 is 07, not 87 00
+    Traceback (most recent call last):
+    ...
+    hailfeather.refusal.Refusal: refused 9 at byte 2: the plan is malformed
     """
     answer = functions.hf_plan_read(*lent("plan", plan))
     accept_plan("plan_read", answer)
@@ -75,13 +81,32 @@ def row(site: BytesLike, house: BytesLike, chute: int) -> Row:
 
 
 def write(destinations: Iterable[int]) -> bytes:
-    """The plan with these destinations, each number in the fewest groups. Refuses with 9."""
+    """The plan with these destinations. Refuses with 9."""
     numbers = [number_of("a destination", number, LARGEST_DESTINATION) for number in islice(destinations, ROWS_LIMIT + 1)]
     lent_rows = (c_uint32 * len(numbers))(*numbers), len(numbers)
     needed = functions.hf_plan_length(*lent_rows)
     accept("plan_length", needed.number)
     room = room_for(needed.length)
     accept("plan_write", functions.hf_plan_write(*lent_rows, room, len(room)).number)
+    return bytes(room)
+
+
+def migrate(plan: BytesLike) -> bytes:
+    """The plan by today's rule with the rows that a plan has by the old one, by which a number may stand in more groups than it needs. A plan that keeps
+    today's rule stays as it is. Refuses with 5, and with 9 where the plan is malformed by the old rule too.
+
+    >>> migrate(bytes([3, 135, 0, 172, 2, 128, 128, 0])).hex(" ")
+    '03 07 ac 02 00'
+    >>> migrate(bytes([3, 135, 0, 172]))
+    Traceback (most recent call last):
+    ...
+    hailfeather.refusal.Refusal: refused 9 at byte 4: the plan is malformed by the old rule too
+    """
+    lent_plan = lent("plan", plan)
+    needed = functions.hf_plan_migrated_length(*lent_plan)
+    accept_plan("plan_migrated_length", needed)
+    room = room_for(needed.length)
+    accept_plan("plan_migrate", functions.hf_plan_migrate(*lent_plan, room, len(room)))
     return bytes(room)
 
 

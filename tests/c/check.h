@@ -42,6 +42,7 @@ void check_sessions(void);
 void check_seals(void);
 void check_generators(void);
 void check_plans(void);
+void check_migration(void);
 void check_halls(void);
 void check_hall_limits(void);
 void check_places(void);

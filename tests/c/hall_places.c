@@ -51,7 +51,27 @@ static void numbers(void) {
     malformed(BYTES(1, 0x80, 0x80, 0x80, 0, 7), 3);
     malformed(BYTES(1, 0, 0x80, 0x80, 0x80, 0), 4);
     malformed(BYTES(1, 1, 0x80, 0x80, 0x80, 0), 4);
-    well_formed(BYTES(0x81, 0x80, 0, 0x80, 0x80, 0, 0xFF, 0xFF, 0x7F), 1, 1);
+    well_formed(BYTES(1, 0, 0xFF, 0xFF, 0x7F), 1, 1);
+}
+
+/* A number in more groups than it needs, the outermost one, a kind, a destination or a hall's entries: its last group, whatever its value breaks. */
+static void padded_numbers(void) {
+    malformed(BYTES(0x80, 0), 1);
+    malformed(BYTES(0x80, 0x80, 0), 2);
+    malformed(BYTES(0x81, 0, 0, 7), 1);
+    malformed(BYTES(1, 0x80, 0, 7), 2);
+    malformed(BYTES(1, 0x81, 0, 0), 2);
+    malformed(BYTES(1, 0x80, 0x80, 0, 7), 3);
+    malformed(BYTES(1, 0, 0x80, 0), 3);
+    malformed(BYTES(1, 0, 0x87, 0), 3);
+    malformed(BYTES(1, 0, 0x87, 0x80, 0), 4);
+    malformed(BYTES(1, 1, 0x80, 0), 3);
+    malformed(BYTES(1, 1, 0x81, 0x80, 0, 0, 7), 4);
+    well_formed(BYTES(1, 0, 0), 1, 1);
+    well_formed(BYTES(1, 0, 0x80, 1), 1, 1);
+    well_formed(BYTES(1, 0, 0x80, 0x80, 1), 1, 1);
+    malformed(BYTES(1, 0x82, 0, 0), 2); /* a kind that is none, and a group too many: judged before what it is */
+    malformed(BYTES(1, 0x82, 0x80, 0, 0), 3);
 }
 
 static void kinds_and_ends(void) {
@@ -62,12 +82,12 @@ static void kinds_and_ends(void) {
     malformed(big, 65536, 1);
     well_formed(BYTES(0), 0, 0);
     malformed(BYTES(1, 2, 0), 1); /* a kind's first byte, however many it has and whatever is in the others */
-    malformed(BYTES(1, 0x82, 0x80, 0, 0), 1);
+    malformed(BYTES(1, 0x82, 0x80, 1, 0), 1);
     malformed(BYTES(1, 0x80, 1, 0), 1);
     malformed(BYTES(1, 0x81, 0x80, 4, 0), 1);
     malformed(BYTES(2, 0, 7, 0xFF, 0xFF, 0x7F), 3);
-    well_formed(BYTES(1, 0x81, 0x80, 0, 0), 1, 0);
-    well_formed(BYTES(1, 0x80, 0, 7), 1, 1);
+    well_formed(BYTES(1, 1, 0), 1, 0);
+    well_formed(BYTES(1, 0, 7), 1, 1);
 }
 
 /* The plan in `room` with these bytes in place of those from `at` on. */
@@ -81,12 +101,14 @@ static void levels(void) {
     memset(plan, 1, sizeof plan); /* in 15 bytes eight levels, each with an entry, of which the last is still to come */
     well_formed(plan, ending(plan, 15, BYTES(0, 7)), 8, 1);
     malformed(plan, ending(plan, 15, BYTES(1, 0)), 15);
-    malformed(plan, ending(plan, 15, BYTES(0x81, 0x80, 0, 0)), 15);
-    malformed(plan, ending(plan, 15, BYTES(1)), 15); /* judged before the hall's number of entries, which is missing, or goes on */
+    malformed(plan, ending(plan, 15, BYTES(1)), 15); /* judged before the hall's number of entries, which is missing, or goes on, or has an empty group */
     malformed(plan, ending(plan, 15, BYTES(1, 0x80, 0x80, 0x80)), 15);
+    malformed(plan, ending(plan, 15, BYTES(1, 0x80, 0)), 15);
     malformed(plan, ending(plan, 15, BYTES(2)), 15);
     malformed(plan, ending(plan, 15, BYTES(0x81)), 16); /* not judged before the kind is read */
     malformed(plan, ending(plan, 15, BYTES(0x81, 0x80, 0x80)), 17);
+    malformed(plan, ending(plan, 15, BYTES(0x81, 0, 0)), 16);
+    malformed(plan, ending(plan, 15, BYTES(0x81, 0x80, 0, 0)), 17);
     plan[14] = 0; /* the eighth level is empty */
     well_formed(plan, 15, 7, 0);
 }
@@ -96,11 +118,13 @@ static void chutes(void) {
     static uint8_t plan[FULL + 16] = {0x81, 0x20}; /* 4,097 entries, of which 4,096 are chutes, and the last is still to come */
     well_formed(plan, ending(plan, FULL, BYTES(1, 0)), 4097, 4096);
     malformed(plan, ending(plan, FULL, BYTES(0, 0)), FULL);
-    malformed(plan, ending(plan, FULL, BYTES(0x80, 0x80, 0, 0)), FULL);
-    malformed(plan, ending(plan, FULL, BYTES(0)), FULL); /* judged before the destination, which is missing, or goes on */
+    malformed(plan, ending(plan, FULL, BYTES(0)), FULL); /* judged before the destination, which is missing, or goes on, or has an empty group */
     malformed(plan, ending(plan, FULL, BYTES(0, 0x80, 0x80, 0x80)), FULL);
+    malformed(plan, ending(plan, FULL, BYTES(0, 0x80, 0)), FULL);
     malformed(plan, ending(plan, FULL, BYTES(2, 0)), FULL);
     malformed(plan, ending(plan, FULL, BYTES(0x80)), FULL + 1);
+    malformed(plan, ending(plan, FULL, BYTES(0x80, 0, 0)), FULL + 1);
+    malformed(plan, ending(plan, FULL, BYTES(0x80, 0x80, 0, 0)), FULL + 2);
     malformed(plan, ending(plan, FULL, BYTES(1, 1, 0, 0)), FULL + 2); /* in a hall */
     plan[0] = 0x80; /* 4,096 entries */
     well_formed(plan, FULL, 4096, 4096);
@@ -112,6 +136,8 @@ static void two_breaches(void) {
     malformed(BYTES(1, 2, 0x80), 1);                         /* another kind, then a number that is cut */
     malformed(BYTES(1, 0x82), 2);                            /* another kind, but it is cut itself */
     malformed(BYTES(1, 0x82, 0x80, 0x80), 3);                /* and here it goes on */
+    malformed(BYTES(2, 0, 0x87, 0, 2, 0), 3);                /* an empty group, then another kind */
+    malformed(BYTES(2, 2, 0, 0, 0x87, 0), 1);                /* the reverse */
     malformed(BYTES(3, 2, 0, 0, 0x80, 0x80, 0x80, 0), 1);    /* another kind, then a number that goes on */
     malformed(BYTES(3, 0, 0x80, 0x80, 0x80, 2, 0), 4);       /* the reverse */
     malformed(BYTES(2, 0, 7, 3, 0, 9), 3);                   /* another kind, then bytes after the last entry */
@@ -142,6 +168,7 @@ static void without_a_place(void) {
 
 void check_hall_places(void) {
     numbers();
+    padded_numbers();
     kinds_and_ends();
     levels();
     chutes();

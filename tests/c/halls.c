@@ -24,9 +24,8 @@ static bool is_written(hf_written w, uint8_t number) { return w.number == number
 
 static uint32_t *lend_values(lent *buffer, size_t entries) { return (uint32_t *)(void *)lend(buffer, entries * sizeof(uint32_t)); }
 
-/* A plan that is read as these lists, which are written as `written`: the same bytes but where a number has more groups than it needs. */
-static void accepted(const uint8_t *plan, size_t length, uint32_t outer, const uint8_t *k, size_t entries, const uint32_t *v, size_t v_length,
-                     const uint8_t *written, size_t written_length) {
+/* A plan that is read as these lists, which are written as that plan. */
+static void accepted(const uint8_t *plan, size_t length, uint32_t outer, const uint8_t *k, size_t entries, const uint32_t *v, size_t v_length) {
     lent read_kinds, read_values, out;
     uint32_t chutes = 0;
     for (size_t i = 0; i < entries; i++)
@@ -40,10 +39,10 @@ static void accepted(const uint8_t *plan, size_t length, uint32_t outer, const u
         h = hf_hall_read_into(plan, length, lend(&read_kinds, n), n, lend_values(&read_values, entries + 1), entries + 1);
         EXPECT(halls_are(h, 0, 0, 0, 9) && h.place == 0 && untouched(&read_kinds) && untouched(&read_values));
     }
-    EXPECT(measured(hf_hall_length(outer, k, entries, v, v_length), written_length, 0));
-    for (size_t n = 0; n <= written_length + 1; n++) {
+    EXPECT(measured(hf_hall_length(outer, k, entries, v, v_length), length, 0));
+    for (size_t n = 0; n <= length + 1; n++) {
         hf_written w = hf_hall_write(outer, k, entries, v, v_length, lend(&out, n), n);
-        EXPECT(n == written_length ? is_written(w, 0) && filled_with(&out, written) : is_written(w, 9) && untouched(&out));
+        EXPECT(n == length ? is_written(w, 0) && filled_with(&out, plan) : is_written(w, 9) && untouched(&out));
     }
 }
 
@@ -60,15 +59,14 @@ static void refused(const uint8_t *plan, size_t length, uint8_t number) {
 }
 
 static void good_plans(void) {
-    accepted(good, sizeof good, 2, kinds, 4, values, 4, good, sizeof good);
-    accepted(BYTES(0), 0, NONE, NO_VALUES, BYTES(0));
-    accepted(BYTES(1, 1, 0), 1, BYTES(1), VALUES(0), BYTES(1, 1, 0));
-    accepted(BYTES(1, 1, 2, 1, 0, 1, 0), 1, BYTES(1, 1, 1), VALUES(2, 0, 0), BYTES(1, 1, 2, 1, 0, 1, 0));
-    accepted(BYTES(3, 1, 0, 0, 5, 1, 1, 0, 6), 3, BYTES(1, 0, 1, 0), VALUES(0, 5, 1, 6), BYTES(3, 1, 0, 0, 5, 1, 1, 0, 6));
-    accepted(BYTES(1, 0, 0xFF, 0xFF, 0x7F), 1, BYTES(0), VALUES(2097151), BYTES(1, 0, 0xFF, 0xFF, 0x7F));
-    /* numbers in more groups than they need: the outermost one, a hall's kind and its entries, a chute's kind and destination */
-    accepted(BYTES(0x80, 0x80, 0), 0, NONE, NO_VALUES, BYTES(0));
-    accepted(BYTES(0x81, 0, 0x81, 0x80, 0, 0x81, 0, 0x80, 0x80, 0, 0x87, 0), 1, BYTES(1, 0), VALUES(1, 7), BYTES(1, 1, 1, 0, 7));
+    accepted(good, sizeof good, 2, kinds, 4, values, 4);
+    accepted(BYTES(0), 0, NONE, NO_VALUES);
+    accepted(BYTES(1, 1, 0), 1, BYTES(1), VALUES(0));
+    accepted(BYTES(1, 1, 2, 1, 0, 1, 0), 1, BYTES(1, 1, 1), VALUES(2, 0, 0));
+    accepted(BYTES(1, 1, 1, 0, 7), 1, BYTES(1, 0), VALUES(1, 7));
+    accepted(BYTES(3, 1, 0, 0, 5, 1, 1, 0, 6), 3, BYTES(1, 0, 1, 0), VALUES(0, 5, 1, 6));
+    accepted(BYTES(1, 0, 0xFF, 0xFF, 0x7F), 1, BYTES(0), VALUES(2097151));
+    accepted(BYTES(2, 0, 0x80, 1, 0, 0x80, 0x80, 1), 2, BYTES(0, 0), VALUES(128, 16384));
     static const uint64_t none[] = {4, 5, 4096, 4097, UINT32_MAX, (uint64_t)UINT32_MAX + 1, (uint64_t)UINT32_MAX + 2, UINT64_MAX};
     for (size_t i = 0; i < sizeof none / sizeof *none; i++) EXPECT(found(hf_hall_destination(good, sizeof good, none[i]), 0, 10));
 }
@@ -87,6 +85,12 @@ static void bad_plans(void) {
     refused(BYTES(1, 0x80, 0x80, 0x80, 0, 7), 9); /* numbers of four groups */
     refused(BYTES(1, 0, 0x80, 0x80, 0x80, 0), 9);
     refused(BYTES(0x81, 0x80, 0x80, 0, 0, 7), 9);
+    refused(BYTES(0x80, 0x80, 0), 9); /* numbers in more groups than they need: outermost, a hall's kind and entries, a chute's kind and destination */
+    refused(BYTES(0x81, 0, 1, 1, 0, 7), 9);
+    refused(BYTES(1, 0x81, 0x80, 0, 1, 0, 7), 9);
+    refused(BYTES(1, 1, 0x81, 0, 0, 7), 9);
+    refused(BYTES(1, 1, 1, 0x80, 0x80, 0, 7), 9);
+    refused(BYTES(1, 1, 1, 0, 0x87, 0), 9);
     refused(BYTES(3, 1, 2, 0, 7, 0, 5), 9); /* fewer entries than promised */
     refused(BYTES(1, 1, 3, 0, 7, 0, 5), 9);
     refused(BYTES(1, 1, 1, 0, 7, 0, 5), 9); /* more entries than promised */

@@ -60,15 +60,36 @@ static void numbers(void) {
     well_formed(good, sizeof good, 3);
     malformed(BYTES(0x80), 1);
     malformed(BYTES(0x80, 0x80), 2);
-    well_formed(BYTES(0x80, 0x80, 0), 0);
+    well_formed(BYTES(0), 0);
     malformed(BYTES(1, 0x80, 0x80), 3);
     malformed(BYTES(0x80, 0x80, 0x80), 2); /* a fourth group: the third byte */
     malformed(BYTES(0x80, 0x80, 0x80, 0), 2);
     malformed(BYTES(1, 0x80, 0x80, 0x80), 3);
     malformed(BYTES(1, 0x80, 0x80, 0x80, 0), 3);
     malformed(BYTES(3, 7, 0xAC, 2, 0xFF, 0xFF, 0xFF, 0), 6);
-    well_formed(BYTES(1, 0x80, 0x80, 0), 1);
+    well_formed(BYTES(1, 0x80, 0x80, 1), 1);
     well_formed(BYTES(3, 7, 0xAC, 2, 0xFF, 0xFF, 0x7F), 3);
+}
+
+/* A number in more groups than it needs: its last group, whatever its value breaks. */
+static void padded_numbers(void) {
+    malformed(BYTES(0x80, 0), 1);
+    malformed(BYTES(0x80, 0x80, 0), 2);
+    malformed(BYTES(0x83, 0, 7, 0xAC, 2, 0), 1);
+    malformed(BYTES(0x83, 0x80, 0, 7, 0xAC, 2, 0), 2);
+    malformed(BYTES(1, 0x80, 0), 2);
+    malformed(BYTES(1, 0x87, 0), 2);
+    malformed(BYTES(1, 0x87, 0x80, 0), 3);
+    malformed(BYTES(1, 0x80, 0x80, 0), 3);
+    malformed(BYTES(3, 7, 0xAC, 0x82, 0, 0), 4);
+    malformed(BYTES(3, 7, 0xAC, 2, 0x80, 0), 5);
+    well_formed(BYTES(1, 0), 1);
+    well_formed(BYTES(1, 7), 1);
+    well_formed(BYTES(1, 0x80, 1), 1);
+    well_formed(BYTES(3, 0x80, 0x80, 1, 0x80, 1, 0), 3);
+    malformed(BYTES(0x81, 0xA0, 0), 2); /* 4,097 rows, and a group too many: judged before how many they are */
+    malformed(BYTES(1, 0x87, 0, 7), 2); /* and a byte after the last row */
+    malformed(BYTES(0x80, 0, 0), 1);
 }
 
 static void rows_and_ends(void) {
@@ -79,7 +100,7 @@ static void rows_and_ends(void) {
     many[0] = 0x81;
     malformed(many, 2 + 4097, 0); /* 4,097 rows, all of them there */
     malformed(many, 2, 0);
-    malformed(BYTES(0x81, 0xA0, 0), 0);
+    malformed(BYTES(0x81, 0xA0, 1), 0);
     malformed(BYTES(0xFF, 0xFF, 0x7F), 0);
     malformed(BYTES(0, 0), 1);
     malformed(BYTES(3, 7, 0xAC, 2, 0, 0), 5);
@@ -90,7 +111,9 @@ static void rows_and_ends(void) {
 /* Two breaches in one plan: the first in reading order counts, and a number is judged once it is read. */
 static void two_breaches(void) {
     malformed(BYTES(2, 0x80, 0x80, 0x80, 0x80), 3);             /* a number that goes on, then one that is cut */
-    malformed(BYTES(2, 0x80, 0x80, 0, 0x80), 5);                /* cut alone */
+    malformed(BYTES(2, 0x80, 0x80, 1, 0x80), 5);                /* cut alone */
+    malformed(BYTES(2, 0x80, 0x80, 0, 0x80), 3);                /* an empty group, then a number that is cut */
+    malformed(BYTES(2, 0x80, 0x80, 0x80, 0x80, 0), 3);          /* a number that goes on, then an empty group */
     malformed(BYTES(2, 0x80, 0x80, 0x80, 0xFF, 0xFF, 0xFF), 3); /* two that go on */
     malformed(BYTES(1, 0x80, 0x80, 0x80, 7, 7), 3);             /* one that goes on, then bytes after the last row */
     malformed(BYTES(0x81, 0x20, 0x80, 0x80, 0x80), 0);          /* too many rows, then a number that goes on */
@@ -119,6 +142,7 @@ static void without_a_place(void) {
 
 void check_places(void) {
     numbers();
+    padded_numbers();
     rows_and_ends();
     two_breaches();
     without_a_place();

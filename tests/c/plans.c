@@ -16,6 +16,8 @@ static void reading(void) {
     EXPECT(r.number == 9 && r.rows == 0 && r.place == 3);
     r = hf_plan_read(good, 4);
     EXPECT(r.number == 9 && r.rows == 0 && r.place == 4);
+    r = hf_plan_read(BYTES(1, 0x87, 0));
+    EXPECT(r.number == 9 && r.rows == 0 && r.place == 2);
     r = hf_plan_read(big, 65537);
     EXPECT(r.number == 5 && r.rows == 0 && r.place == 0);
     static const struct {
@@ -49,6 +51,8 @@ static void two_plans(void) {
     EXPECT(row_is(hf_plan_row(site, sizeof site, good, sizeof good, 0), 0, 0, 0, 10));
     EXPECT(row_is(hf_plan_row(site, sizeof site, good, sizeof good, (uint64_t)UINT32_MAX + 2), 0, 0, 0, 10));
     EXPECT(malformed_is(hf_plan_row(site, sizeof site, long_number, sizeof long_number, 1), HF_HOUSE, 3));
+    EXPECT(malformed_is(hf_plan_row(site, sizeof site, BYTES(1, 0x87, 0), 1), HF_HOUSE, 2));
+    EXPECT(malformed_is(hf_plan_row(BYTES(1, 0x87, 0), good, sizeof good, 2), HF_SITE, 2));
     EXPECT(malformed_is(hf_plan_row(NONE, good, sizeof good, 1), HF_SITE, 0));
     EXPECT(row_is(hf_plan_row(NONE, big, 65537, 1), 0, 0, 0, 5));
 }

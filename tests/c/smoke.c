@@ -58,6 +58,8 @@ int main(int count, char **words) {
     report("the generators");
     check_plans();
     report("chute plans");
+    check_migration();
+    report("migration of chute plans");
     check_halls();
     check_hall_limits();
     report("hall plans");

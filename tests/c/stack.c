@@ -7,6 +7,7 @@
 
 enum { STACK = 1 << 18, CANARY = 0xA5, MOST_STACK = 4096 };
 static const uint8_t plan[] = {0x03, 0x07, 0xAC, 0x02, 0x00};
+static const uint8_t old_plan[] = {0x83, 0x80, 0x00, 0x87, 0x00, 0xAC, 0x82, 0x00, 0x80, 0x80, 0x00}; /* the same, with empty groups */
 static const uint32_t rows[] = {7, 300, 0};
 /* eight levels, the deepest there are, with a chute in the innermost hall */
 static const uint8_t halls[] = {1, 1, 1, 1, 1, 1, 1, 1, 1, 1, 1, 1, 1, 1, 1, 0, 7}, kinds[] = {1, 1, 1, 1, 1, 1, 1, 0};
@@ -35,6 +36,8 @@ static void asking(void) { number = hf_plan_destination(plan, sizeof plan, 3).nu
 static void looking(void) { number = hf_plan_row(plan, sizeof plan, plan, sizeof plan, 3).number; }
 static void measuring(void) { number = hf_plan_length(rows, 3).number; }
 static void writing(void) { number = hf_plan_write(rows, 3, out, sizeof plan).number; }
+static void measuring_migrated(void) { number = hf_plan_migrated_length(old_plan, sizeof old_plan).number; }
+static void migrating(void) { number = hf_plan_migrate(old_plan, sizeof old_plan, out, sizeof plan).number; }
 static void walking(void) { number = hf_plan_step(plan, sizeof plan, hf_plan_start(plan, sizeof plan)).number; }
 static void reading_halls(void) { number = hf_hall_read(halls, sizeof halls).number; }
 static void asking_halls(void) { number = hf_hall_destination(halls, sizeof halls, 1).number; }
@@ -62,9 +65,10 @@ void check_stack(void) {
     return; /* the sanitizer's own frames are larger */
 #endif
     /* sealing comes before opening, which opens what it made */
-    static void (*const works[])(void) = {permuting, cshake,  kmac,          kmacxof,      naming,       stepping,        sealing,
-                                          opening,   drawing, drawing_kmac,  reading,      asking,       looking,         measuring,
-                                          writing,   walking, reading_halls, asking_halls, reading_into, measuring_halls, writing_halls};
+    static void (*const works[])(void) = {permuting,       cshake,             kmac,         kmacxof, naming,        stepping,     sealing,
+                                          opening,         drawing,            drawing_kmac, reading, asking,        looking,      measuring,
+                                          writing,         measuring_migrated, migrating,    walking, reading_halls, asking_halls, reading_into,
+                                          measuring_halls, writing_halls};
     uint8_t *stack = aligned_alloc(4096, STACK);
     EXPECT(stack != NULL);
     if (stack == NULL) return;

@@ -15,8 +15,11 @@ fails 64 'a command is missing'
 fails 64 'no command polish' polish
 fails 64 'report, lookup or write' plan
 fails 64 'report, lookup or write' plan polish
+fails 64 'plan has to be followed by report, lookup, write or migrate' plan
+fails 64 'plan has to be followed by report, lookup, write or migrate' plan polish
 fails 64 'hall has to be followed by report, lookup or write' hall
 fails 64 'hall has to be followed by report, lookup or write' hall polish
+fails 64 'hall has to be followed by report, lookup or write' hall migrate
 fails 64 'no command halls' halls report
 fails 64 'no option --rows' plan report --rows plan
 that 'no hint at the help' grep -q '^hailfeather: hailfeather plan report --help says more$' err

@@ -10,8 +10,8 @@ gives halls.txt hall report <halls
 gives halls.txt hall report - <halls
 gives halls.txt hall report -- halls
 
-# For each expression over the reference's halls, one a line, a plan NUMBER.plan and its report NUMBER.txt, with the same plan in the fewest groups, or its
-# refusal and its place. deep(8, [5]) has 8 levels and a chute on the last of them, wide(8, 4) has 8 levels of 4 halls each.
+# For each expression over the reference's halls, one a line, a plan NUMBER.plan, and its report NUMBER.txt or its refusal and its place NUMBER.refusal.
+# deep(8, [5]) has 8 levels and a chute on the last of them, wide(8, 4) has 8 levels of 4 halls each.
 cat >cases.py <<'PYTHON'
 import sys, hall
 def deep(levels, entries):
@@ -32,9 +32,10 @@ for case, expression in enumerate(sys.stdin):
     found = hall.reading(plan)
     report = [f"chutes {len(hall.destinations(found.content))}\n", *lines(found.content, 0, "")]
     open(f"{case}.plan", "wb").write(plan)
-    open(f"{case}.txt", "w").writelines([f"9@{found.place}" if found.number == 9 else f"{found.number}"] if found.number else report)
-    if not found.number:
-        open(f"{case}.least", "wb").write(hall.bytes_of(found.content))
+    if found.number:
+        open(f"{case}.refusal", "w").write(f"9@{found.place}" if found.number == 9 else f"{found.number}")
+    else:
+        open(f"{case}.txt", "w").writelines(report)
 PYTHON
 mkdir cases
 (cd cases && python3 ../cases.py) <<'PLANS'
@@ -56,6 +57,16 @@ b'\x01\x80\x02\x00'
 b'\x01\x81\x02\x00'
 b'\x81\x00\x81\x80\x00\x82\x00\x80\x80\x00\x87\x00\x80\x00\xac\x82\x00'
 b'\x01\x82\x80\x00\x00'
+b'\x01\x82\x80\x01\x00'
+b'\x80\x00'
+b'\x80\x80\x00'
+b'\x01\x80\x00\x07'
+b'\x01\x81\x00\x00'
+b'\x01\x82\x00\x00'
+b'\x01\x00\x87\x00'
+b'\x01\x00\x87\x80\x00'
+b'\x01\x01\x80\x00'
+b'\x01\x00\x80\x80\x01'
 b'\x02\x00\x07'
 b'\x01\x01\x02\x00\x07'
 b'\x01\x01\x01\x00\x07\x00\x08'
@@ -68,8 +79,10 @@ b'\x03\x02\x00\x00\x80\x80\x80'
 b'\x03\x00\x80\x80\x80\x02\x00'
 b'\x01' * 15 + b'\x01'
 b'\x01' * 15 + b'\x81'
+b'\x01' * 15 + b'\x81\x00\x00'
 b'\x81\x20' + b'\x00' * 8193
 b'\x81\x20' + b'\x00' * 8192 + b'\x80'
+b'\x81\x20' + b'\x00' * 8192 + b'\x80\x00\x00'
 b'\x00' * 65536
 b'\x00' * 65537
 hall.bytes_of([[]] * 32765 + [128])
@@ -77,21 +90,20 @@ hall.bytes_of([[]] * 32765 + [16384])
 PLANS
 for plan in cases/*.plan; do
   case=${plan%.plan}
-  if [ -e "$case.least" ]; then
+  if [ -e "$case.txt" ]; then
     gives "$case.txt" hall report <"$plan"
-    gives "$case.least" hall write "$case.txt"
-    gives "$case.txt" hall report "$case.least"
+    gives "$plan" hall write "$case.txt"
     while read -r chute destination; do
       says "$destination" hall lookup "$chute" "$plan"
     done < <(grep -E '^ *[0-9]' "$case.txt" | awk 'NR % 1024 == 1')
     refuses hall_destination 10 hall lookup 0 "$plan"
     refuses hall_destination 10 hall lookup $(($(sed -n 's/^chutes //p' "$case.txt") + 1)) "$plan"
   else
-    refuses hall_read "$(cat "$case.txt")" hall report "$plan"
-    refuses hall_destination "$(cat "$case.txt")" hall lookup 1 <"$plan"
+    refuses hall_read "$(cat "$case.refusal")" hall report "$plan"
+    refuses hall_destination "$(cat "$case.refusal")" hall lookup 1 <"$plan"
   fi
 done
-that 'not every hall plan was tried' test "$(find cases -name '*.plan' | wc -l)" = 36
+that 'not every hall plan was tried' test "$(find cases -name '*.plan' | wc -l)" = 48
 refuses hall_read 5 hall report </dev/zero
 refuses hall_destination 5 hall lookup 1 </dev/zero
 

@@ -33,9 +33,22 @@ b'\x81\x20' + b'\x01' * 4097
 b'\x80\x20' + b'\x01' * 4097
 b'\x81\xa0\x00'
 b'\x81\xa0'
+b'\x80\x00'
+b'\x80\x80\x00'
+b'\x83\x00\x07\xac\x02\x00'
+b'\x87\x80\x00' + b'\x07' * 7
+b'\x07' + b'\x07' * 7
+b'\x01\x80\x00'
+b'\x01\x80\x01'
+b'\x01\x87\x00'
+b'\x01\x87\x80\x00'
+b'\x01\x80\x80\x00'
+b'\x01\x80\x80\x01'
+b'\x01\x87\x00\x07'
 b'\x80\x80\x80'
 b'\x02\x80\x80\x80\x80'
 b'\x02\x80\x80\x00\x80'
+b'\x02\x80\x80\x01\x80'
 b'\x01\x80\x80\x80\x07\x07'
 b'\x81\x20\x80\x80\x80'
 b'\x00' * 65536
@@ -83,6 +96,15 @@ printf '\000\000' >after.plan
 refuses plan_row 9@1:site plan lookup 1 after.plan --house short.plan
 refuses plan_row "9@$(stat -c %s short.plan):site" plan lookup 1 short.plan --house after.plan
 refuses plan_row "9@$(stat -c %s short.plan):house" plan lookup 1 site --house short.plan
+
+# a number in more groups than it needs: the last of them, before what the number's value breaks, and of two plans the one that has it
+printf '\001\207\000' >padded.plan
+refuses plan_start 9@2 plan report padded.plan
+refuses plan_destination 9@2 plan lookup 1 padded.plan
+refuses plan_row 9@2:site plan lookup 1 padded.plan --house plan
+refuses plan_row 9@2:house plan lookup 1 plan --house padded.plan
+refuses plan_start 9@2 plan report < <(printf '\201\240\000')
+refuses plan_start 9@0 plan report < <(printf '\201\040')
 fails 64 'cannot both be read' plan lookup 1 --house - <plan
 
 # write: every way to say the same rows

@@ -25,6 +25,7 @@ pub const COMMANDS: &[&Command] = &[
     &plan::REPORT,
     &plan::LOOKUP,
     &plan::WRITE,
+    &plan::MIGRATE,
     &hall::REPORT,
     &hall::LOOKUP,
     &hall::WRITE,
@@ -61,7 +62,8 @@ fn other(words: &[OsString]) -> Result<(), Failure> {
         [Some("--version"), ..] => output::text(concat!("hailfeather ", env!("CARGO_PKG_VERSION"), "\n")),
         [Some(group @ ("plan" | "hall")), Some("--help" | "-h"), ..] => output::text(&help::group(group)),
         [] => Err(Failure::Usage("a command is missing".to_string())),
-        [Some(group @ ("plan" | "hall")), ..] => Err(Failure::Usage(format!("{group} has to be followed by report, lookup or write"))),
+        [Some("plan"), ..] => Err(Failure::Usage("plan has to be followed by report, lookup, write or migrate".to_string())),
+        [Some("hall"), ..] => Err(Failure::Usage("hall has to be followed by report, lookup or write".to_string())),
         _ => Err(Failure::Usage(format!(
             "there is no command {}",
             words[0].to_string_lossy().escape_debug()

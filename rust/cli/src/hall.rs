@@ -17,8 +17,9 @@ pub const REPORT: Command = Command {
     operands: &["PLAN"],
     options: &[],
     notes: "What is in a hall stands below it, two spaces deeper. What is printed can be given to hailfeather hall write.
-A malformed plan is refused with the byte, from 0, at which it is malformed: as hailfeather plan report has it, and of a kind other than
-0 or 1, of a hall beyond the eighth level and of a chute beyond the 4,096th the kind's first byte.",
+A malformed plan is refused with the byte, from 0, at which it is malformed: as hailfeather plan report has it, also for numbers in more
+groups than they need, and of a kind other than 0 or 1, of a hall beyond the eighth level and of a chute beyond the 4,096th the kind's
+first byte. hailfeather plan migrate is for chute plans alone: a hall plan with such numbers has to be written anew from its halls.",
     examples: "printf '\\002\\001\\002\\000\\007\\000\\254\\002\\000\\000' | hailfeather hall report
 # chutes 3
 # hall

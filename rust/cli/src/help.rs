@@ -45,7 +45,7 @@ Exit status:
 pub fn general() -> String {
     let commands: String = COMMANDS
         .iter()
-        .map(|command| format!("    {:<12} {}\n", command.name, command.purpose))
+        .map(|command| format!("    {:<13} {}\n", command.name, command.purpose))
         .collect();
     format!("{ABOUT}\nCommands:\n{commands}\n{EXAMPLE}\n{RULES}")
 }

@@ -1,4 +1,4 @@
-//! The commands over chute plans: report, lookup and write.
+//! The commands over chute plans: report, lookup, write and migrate.
 
 use crate::args::{self, Arguments};
 use crate::command::Command;
@@ -19,8 +19,9 @@ pub const REPORT: Command = Command {
     operands: &["PLAN"],
     options: &[],
     notes: "What is printed can be given to hailfeather plan write. A malformed plan is refused with the byte, from 0, at which it is malformed:
-of a number that is cut its first missing byte, of one that goes on after three groups the third byte, of more than 4,096 rows 0,
-and of bytes after the last row the first.",
+of a number that is cut its first missing byte, of one that goes on after three groups the third byte, of one in more groups than it needs,
+such as 87 00 for 7, its last and empty group, of more than 4,096 rows 0, and of bytes after the last row the first.
+An old copy, whose numbers may stand in more groups than they need, is written anew by hailfeather plan migrate.",
     examples: "printf '\\003\\007\\254\\002\\000' | hailfeather plan report
 # rows 3
 # 1 7
@@ -49,7 +50,8 @@ pub const LOOKUP: Command = Command {
         "a house plan, asked for the chutes that PLAN, then the site plan, does not have",
     )],
     notes: "Chutes count from 1. With a house plan the word site or house follows, for the plan that has the chute.
-A malformed plan is refused with the byte, from 0, at which it is malformed; of two plans the site plan is read first.",
+A malformed plan is refused with the byte, from 0, at which it is malformed; of two plans the site plan is read first.
+An old copy, whose numbers may stand in more groups than they need, is written anew by hailfeather plan migrate.",
     examples: "printf '\\003\\007\\254\\002\\000' > depot.plan
 hailfeather plan lookup 2 depot.plan
 # 300
@@ -86,6 +88,33 @@ cmp again.plan depot.plan && echo the same
     run: write,
 };
 
+pub const MIGRATE: Command = Command {
+    name: "plan migrate",
+    purpose: "write an old copy of a plan anew, with each number in the fewest groups",
+    operands: &["PLAN"],
+    options: &[output("PLAN", "the new plan; standard output if it is left out")],
+    notes: "A number stands in the fewest groups of seven bits: 7 is 07, and 87 00, whose last group is empty, is malformed.
+By the old rule both are 7. PLAN is read by the old rule, and the same rows are written by the new one; a plan that keeps the new rule is
+written as it is. Two plans with equal rows are then equal bytes. Hall plans are not migrated. A plan that is malformed by the old rule too
+is refused with the byte, from 0, at which it is malformed, and nothing is written.",
+    examples: "printf '\\003\\207\\000\\254\\002\\200\\200\\000' > old.plan
+hailfeather plan report old.plan 2>&1 || echo status $?
+# refused 9 at byte 2: the plan is malformed
+# status 9
+hailfeather plan migrate old.plan -o new.plan && od -An -tx1 new.plan
+#  03 07 ac 02 00
+
+hailfeather plan migrate -o again.plan < new.plan && cmp again.plan new.plan && echo the same
+# the same
+
+printf '\\003\\207\\000\\254' > cut.plan
+hailfeather plan migrate cut.plan -o never.plan 2>&1 || echo status $?
+# refused 9 at byte 4: the plan is malformed by the old rule too
+# status 9",
+    refusals: &[("plan_migrated_length", &[5, 9])],
+    run: migrate,
+};
+
 fn read(name: &OsStr) -> Result<Secret, Failure> {
     input::file(name, limits::PLAN)
 }
@@ -119,4 +148,10 @@ fn write(arguments: &Arguments) -> Result<(), Failure> {
     let target = Target::of(arguments, true)?;
     let Rows(destinations) = lines::read(input::operand(arguments, 0))?;
     output::write(&[(&target, Content::Raw(&plan::to_vec(&destinations)?))], Access::Usual)
+}
+
+fn migrate(arguments: &Arguments) -> Result<(), Failure> {
+    let target = Target::of(arguments, true)?;
+    let plan = read(input::operand(arguments, 0))?;
+    output::write(&[(&target, Content::Raw(&plan::migrate(&plan)?))], Access::Usual)
 }

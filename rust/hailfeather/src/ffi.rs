@@ -6,9 +6,9 @@ mod plans;
 pub use plans::*;
 use std::mem::{offset_of, size_of};
 
-/// HF_VERSION of the header: 0.2.0.
+/// HF_VERSION of the header: 0.3.0.
 #[cfg(test)]
-pub const VERSION: u32 = 200;
+pub const VERSION: u32 = 300;
 
 #[repr(C)]
 pub struct hf_outcome {

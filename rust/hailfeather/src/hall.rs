@@ -68,6 +68,7 @@ fn answered(entry: &str, read: ffi::hf_halls) -> Result<Summary, Refusal> {
 /// assert_eq!(summary(&[0x00])?, Summary { outer: 0, entries: 0, chutes: 0 });
 /// assert_eq!(summary(&[]).unwrap_err().to_string(), "refused 9 at byte 0: the plan is malformed");
 /// assert_eq!(summary(&[0x01, 0x02, 0x00]).unwrap_err().to_string(), "refused 9 at byte 1: the plan is malformed");
+/// assert_eq!(summary(&[0x01, 0x81, 0x00, 0x00]).unwrap_err().to_string(), "refused 9 at byte 2: the plan is malformed"); // 1 is 01
 /// # Ok::<(), hailfeather::Refusal>(())
 /// ```
 pub fn summary(plan: &[u8]) -> Result<Summary, Refusal> {

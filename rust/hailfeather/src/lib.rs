@@ -4,7 +4,7 @@
 //! The work is done by the static library `libhailfeather.a`, in which every function is proved against its contract: for every input, of every
 //! content and length, the answer, the count and the final contents of all lent memory are fixed. This package is the safe way to it from Rust. It
 //! is not itself proved; it lends your slices to the library, and makes a [`Refusal`] of each number but 0. It asks for no memory of its own, but
-//! for [`plan::to_vec`], [`hall::to_vec`] and [`hall::to_halls`].
+//! for [`plan::to_vec`], [`plan::migrate`], [`hall::to_vec`] and [`hall::to_halls`].
 //!
 //! # What to choose
 //!
@@ -18,7 +18,8 @@
 //! | make many secret bytes of a seed | [`Generator`] | each piece of 208 bytes makes a new key, and the old one is gone |
 //! | the same where a policy names KMAC | [`KmacGenerator`] | it is made of KMACXOF256; a piece takes 4 permutation runs, and the other's 3 |
 //! | read, write or ask chute plans | [`plan`] | a plan that is bad anywhere is refused whole |
-//! | the same of plans by hall and line | [`hall`] | chutes stand in halls, which stand in halls, and count through all of them |
+//! | bring an old copy of a chute plan under today's rule | [`plan::migrate`] | it reads numbers with empty groups, which everything else refuses |
+//! | read, write or ask plans by hall and line | [`hall`] | chutes stand in halls, which stand in halls, and count through all of them |
 //!
 //! [`keccak_p`] is the permutation below all of them; hardly anyone needs it alone.
 //!

@@ -1,15 +1,17 @@
-//! Chute plans: reading, asking, writing and walking.
+//! Chute plans: reading, asking, writing, walking, and migrating old copies.
 //!
 //! A plan is the number of its rows (at most 4,096), then the destination of each, then nothing more. A number stands in one to three groups of
-//! seven bits, lowest group first, with the top bit of a byte set when another follows: 0 to 2,097,151. Chutes count from 1; destination 0 sends the
-//! parcel round again.
+//! seven bits, lowest group first, with the top bit of a byte set when another follows: 0 to 2,097,151. It stands in the fewest groups that hold it:
+//! 7 is `07`, and `87 00`, whose last group is empty, is malformed; a single `00` is 0. So two good plans with equal rows are equal bytes. Chutes count
+//! from 1; destination 0 sends the parcel round again.
 //!
 //! Every function reads its plan whole, so a plan that is bad anywhere is refused whichever chute is asked for. A
 //! [`Walk`] over all rows reads it whole only when it is made.
 //!
 //! The [`Refusal`] of a malformed plan tells the [place](Refusal::place) of the first breach in reading order: of the first missing byte, which is the
-//! plan's length, where a number ends too early; of a number's third byte where it goes on after that; 0 where there are more than 4,096 rows; and of the
-//! first byte after the last row.
+//! plan's length, where a number ends too early; of a number's third byte where it goes on after that; of a number's last group where it is empty and
+//! others stand before it, whatever the number's value breaks; 0 where there are more than 4,096 rows; and of the first byte after the last row. An old
+//! copy, in which numbers have such empty groups, [`migrate`] writes anew.
 //!
 //! ```
 //! use hailfeather::plan;
@@ -23,8 +25,10 @@
 use crate::ffi;
 use crate::refusal::{check, check_plan, check_plans, Refusal};
 
+mod migration;
 mod walk;
 
+pub use migration::{migrate, migrate_into, migrated_length};
 pub use walk::Walk;
 
 /// How many rows a plan has. Refuses with 5, 9.
@@ -35,6 +39,7 @@ pub use walk::Walk;
 /// assert_eq!(rows(&[0x00])?, 0);
 /// assert_eq!(rows(&[]).unwrap_err().to_string(), "refused 9 at byte 0: the plan is malformed");
 /// assert_eq!(rows(&[0x03, 0x07, 0xAC]).unwrap_err().to_string(), "refused 9 at byte 3: the plan is malformed");
+/// assert_eq!(rows(&[0x01, 0x87, 0x00]).unwrap_err().to_string(), "refused 9 at byte 2: the plan is malformed"); // 7 is 07
 /// # Ok::<(), hailfeather::Refusal>(())
 /// ```
 pub fn rows(plan: &[u8]) -> Result<u32, Refusal> {

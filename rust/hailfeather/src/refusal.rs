@@ -90,9 +90,9 @@ impl Refusal {
     }
 
     /// The byte of the plan, from 0, at which it is malformed: with the number 9 of a function that reads a plan. `None` with every other number, with
-    /// 9 where no plan that was read is malformed, that is, of a function that measures or writes, or for lists of the wrong length lent to
-    /// [`hall::read_into`](crate::hall::read_into), and for what [`refusals`] lists. [`plan`](crate::plan) and [`hall`](crate::hall) have the place of
-    /// each breach.
+    /// 9 where no plan that was read is malformed, that is, of a function that measures or writes rows or halls, for lists of the wrong length lent to
+    /// [`hall::read_into`](crate::hall::read_into) or a buffer of the wrong length lent to [`plan::migrate_into`](crate::plan::migrate_into), and for what
+    /// [`refusals`] lists. [`plan`](crate::plan) and [`hall`](crate::hall) have the place of each breach.
     ///
     /// ```
     /// use hailfeather::{hall, plan};

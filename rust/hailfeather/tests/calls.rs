@@ -100,6 +100,9 @@ fn a_file_that_is_no_file_of_calls_is_refused() {
         ("plan_length 7 = 0 2", "the answer is 0 2 0"),
         ("plan_write 7 2 = 0 0107", "2 fields stand where 3 belong"),
         ("plan_read 02 = 9 0 0", "the answer is 9 0 1"),
+        ("plan_read 018700 = 0 1 0", "the answer is 9 0 2"),
+        ("plan_migrated_length 018700 = 0 3 0", "the answer is 0 2 0"),
+        ("plan_migrate 018700 3 = 0 018700 0", "the answer is 9 0"),
         ("plan_row 00 02 1 = 9 0 0 0 1 1", "the answer is 9 0 0 0 2 1"),
         ("cshake256 - - - = 0 1 -", "3 fields stand where 4 belong"),
     ] {

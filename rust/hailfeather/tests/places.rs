@@ -63,10 +63,37 @@ fn chute_plans() {
     malformed(&[0x00, 0x00], 1);
     malformed(&followed(GOOD, &[0x80]), 5);
     malformed(&vec![0; limits::PLAN], 1);
-    for (good, rows) in [(GOOD, 3), (&[0x80, 0x80, 0x00], 0), (&[0x01, 0x80, 0x80, 0x00], 1)] {
+    for (good, rows) in [(GOOD, 3), (&[0x00], 0), (&[0x01, 0x80, 0x01], 1), (&[0x01, 0x80, 0x80, 0x01], 1)] {
         assert_eq!(plan::rows(good), Ok(rows));
     }
     assert_eq!(plan::rows(&followed(&[0x80, 0x20], &[0; 4_096])), Ok(4_096));
+}
+
+/// A number in more groups than it needs has the place of its last group, whatever its value breaks.
+#[test]
+fn padded_numbers() {
+    malformed(&[0x80, 0x00], 1);
+    malformed(&[0x80, 0x80, 0x00], 2);
+    malformed(&[0x83, 0x00, 0x07, 0xAC, 0x02, 0x00], 1);
+    malformed(&[0x01, 0x80, 0x00], 2);
+    malformed(&[0x01, 0x87, 0x00], 2);
+    malformed(&[0x01, 0x87, 0x80, 0x00], 3);
+    malformed(&[0x01, 0x80, 0x80, 0x00], 3);
+    malformed(&[0x03, 0x07, 0xAC, 0x82, 0x00, 0x00], 4);
+    malformed(&[0x81, 0xA0, 0x00], 2); // 4,097 rows
+    malformed(&[0x01, 0x87, 0x00, 0x07], 2); // and a byte after the last row
+    for number in [&[0x80, 0x00][..], &[0x80, 0x80, 0x00], &[0x81, 0x00], &[0x87, 0x80, 0x00]] {
+        malformed_halls(number, number.len() - 1);
+        malformed_halls(&followed(&[0x01], number), number.len()); // a kind
+        malformed_halls(&followed(&[0x01, 0x00], number), number.len() + 1); // a destination
+        malformed_halls(&followed(&[0x01, 0x01], number), number.len() + 1); // a hall's number of entries
+    }
+    malformed_halls(&[0x01, 0x82, 0x00, 0x00], 2); // no kind either
+    malformed_halls(&followed(&[1; 15], &[0x81, 0x00, 0x00]), 16); // a hall beyond the eighth level
+    malformed_halls(&followed(&followed(&[0x81, 0x20], &[0; 2 * 4_096]), &[0x80, 0x00, 0x00]), 8_195); // a chute beyond the 4,096th
+    for good in [&[0x01, 0x00, 0x80, 0x01][..], &[0x01, 0x00, 0x80, 0x80, 0x01], &[0x01, 0x00, 0x00]] {
+        assert_eq!(hall::summary(good).map(|halls| halls.chutes), Ok(1));
+    }
 }
 
 #[test]
@@ -79,15 +106,15 @@ fn hall_plans() {
     malformed_halls(&[0x00, 0x00], 1);
     malformed_halls(&followed(HALLS, &[0x00]), 10);
     malformed_halls(&[0x01, 0x02, 0x00], 1);
-    malformed_halls(&[0x02, 0x00, 0x07, 0x82, 0x80, 0x00, 0x00], 3);
+    malformed_halls(&[0x02, 0x00, 0x07, 0x82, 0x80, 0x01, 0x00], 3);
     let eight = [1; 15]; // eight levels, each with an entry, of which the last is still to come
     assert_eq!(hall::summary(&followed(&eight, &[0x00, 0x07])).map(|halls| halls.chutes), Ok(1));
-    for entry in [&[0x01, 0x00][..], &[0x01], &[0x81, 0x80, 0x00, 0x00], &[0x01, 0x80, 0x80, 0x80]] {
+    for entry in [&[0x01, 0x00][..], &[0x01], &[0x01, 0x80, 0x00], &[0x01, 0x80, 0x80, 0x80]] {
         malformed_halls(&followed(&eight, entry), 15);
     }
     let full = followed(&[0x81, 0x20], &[0; 2 * 4_096]); // 4,097 entries, of which 4,096 are chutes, and the last is still to come
     assert_eq!(hall::summary(&followed(&full, &[0x01, 0x00])).map(|halls| halls.chutes), Ok(4_096));
-    for entry in [&[0x00, 0x00][..], &[0x00], &[0x80, 0x80, 0x00, 0x00], &[0x00, 0x80, 0x80, 0x80]] {
+    for entry in [&[0x00, 0x00][..], &[0x00], &[0x00, 0x80, 0x00], &[0x00, 0x80, 0x80, 0x80]] {
         malformed_halls(&followed(&full, entry), full.len());
     }
 }
@@ -96,7 +123,9 @@ fn hall_plans() {
 #[test]
 fn two_breaches() {
     malformed(&[0x02, 0x80, 0x80, 0x80, 0x80], 3);
-    malformed(&[0x02, 0x80, 0x80, 0x00, 0x80], 5);
+    malformed(&[0x02, 0x80, 0x80, 0x01, 0x80], 5);
+    malformed(&[0x02, 0x80, 0x80, 0x00, 0x80], 3);
+    malformed(&[0x02, 0x80, 0x80, 0x80, 0x80, 0x00], 3);
     malformed(&[0x01, 0x80, 0x80, 0x80, 0x07, 0x07], 3);
     malformed(&[0x81, 0x20, 0x80, 0x80, 0x80], 0);
     malformed(&[0x81, 0xA0], 2);
@@ -125,6 +154,8 @@ fn without_a_breach() {
     assert_eq!(told(plan::length(&[2_097_152])), (9, None, None));
     assert_eq!(told(plan::write(&[7], &mut [0; 3])), (9, None, None));
     assert_eq!(told(plan::to_vec(&[0; 4_097])), (9, None, None));
+    assert_eq!(told(plan::migrate_into(GOOD, &mut [0; 4])), (9, None, None));
+    assert_eq!(told(plan::migrate(&long)), (5, None, None));
     assert_eq!(told(hall::length(1, &[2], &[0])), (9, None, None));
     assert_eq!(told(hall::write(0, &[], &[], &mut [0; 2])), (9, None, None));
     assert_eq!(told(hall::write(0, &[], &[], &mut long.clone())), (5, None, None));

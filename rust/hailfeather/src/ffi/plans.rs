@@ -70,6 +70,8 @@ extern "C" {
     pub fn hf_plan_row(site: *const u8, site_length: usize, house: *const u8, house_length: usize, chute: u64) -> hf_row;
     pub fn hf_plan_length(rows: *const u32, rows_length: usize) -> hf_length;
     pub fn hf_plan_write(rows: *const u32, rows_length: usize, out: *mut u8, out_length: usize) -> hf_written;
+    pub fn hf_plan_migrated_length(plan: *const u8, plan_length: usize) -> hf_length;
+    pub fn hf_plan_migrate(plan: *const u8, plan_length: usize, out: *mut u8, out_length: usize) -> hf_written;
     pub fn hf_plan_start(plan: *const u8, plan_length: usize) -> hf_cursor;
     pub fn hf_plan_step(plan: *const u8, plan_length: usize, walk: hf_cursor) -> hf_walk;
 

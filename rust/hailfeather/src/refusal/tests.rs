@@ -66,9 +66,11 @@ fn a_number_without_words_panics() {
 }
 
 /// The entries that read one plan.
-const READERS: [&str; 6] = [
+const READERS: [&str; 8] = [
     "plan_read",
     "plan_destination",
+    "plan_migrated_length",
+    "plan_migrate",
     "plan_start",
     "hall_read",
     "hall_destination",

@@ -110,6 +110,18 @@ pub fn row([site, house, chute]: [&str; 3], answer: &[&str]) -> Compared {
     value(fields, &format!("0 0 0 {malformed}"), answer)
 }
 
+/// A plan that `migrate_into` accepts also has to be what `migrate` makes of it.
+pub fn migrated([plan, length]: [&str; 2], [refusal, output, place]: [&str; 3]) -> Compared {
+    let (plan, mut out) = (bytes(plan), Lent::new(number(length)));
+    let found = plan::migrate_into(&plan, out.middle());
+    let compared = number_and_place(&found, [refusal, place])?;
+    if found.is_ok() {
+        assert_eq!(plan::migrate(&plan).as_deref(), Ok(&*out.middle()));
+    }
+    out.check(found.is_err(), output)?;
+    Ok(compared)
+}
+
 /// Rows that `write` accepts also have to be what `to_vec` makes of them.
 pub fn written([rows, length]: [&str; 2], [refusal, output, place]: [&str; 3]) -> Compared {
     let (rows, mut out) = (list(rows), Lent::new(number(length)));

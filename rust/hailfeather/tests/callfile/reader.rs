@@ -8,7 +8,7 @@ use hailfeather::{hall, plan};
 use super::bytes::{bytes, list, number};
 use super::generators::Generators;
 use super::halls;
-use super::one_call::{hash, opened, permuted, row, sealed, value, written, Compared};
+use super::one_call::{hash, migrated, opened, permuted, row, sealed, value, written, Compared};
 use super::states::{Sessions, Walks};
 
 pub const REFUSALS: &str = include_str!("../../refusals.txt");
@@ -80,6 +80,8 @@ impl Reader {
             "plan_row" => row(exactly(given)?, answer),
             "plan_length" => exactly(given).and_then(|[rows]| value(plan::length(&list(rows)), "0", answer)),
             "plan_write" => written(exactly(given)?, exactly(answer)?),
+            "plan_migrated_length" => exactly(given).and_then(|[plan]| value(plan::migrated_length(&bytes(plan)), "0", answer)),
+            "plan_migrate" => migrated(exactly(given)?, exactly(answer)?),
             "plan_start" => self.walks.begin(exactly(given)?, exactly(answer)?),
             "plan_step" => self.walks.step(exactly(answer)?),
             "hall_read" => exactly(given).and_then(|[plan]| halls::summary(hall::summary(&bytes(plan)), answer)),
