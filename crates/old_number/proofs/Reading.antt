@@ -34,7 +34,7 @@ value-kept at t (bad place) r v n h e =
     let q : _≡_ {A = ℕ} 0 1 = cc in
     absurd (omega arith)
 
-bad-known : (p : Parsed) (r : Number) (place : ℕ) → ReadsNumber p r → r ≡ Bad place → p ≡ bad place
+pub bad-known : (p : Parsed) (r : Number) (place : ℕ) → ReadsNumber p r → r ≡ Bad place → p ≡ bad place
 bad-known (value w m rest) r place h e = let z : _≡_ {A = Number} (Value w m) (Bad place) = sym (h .answer) ∙ e in cc
 bad-known (bad other) r place h e = let z : _≡_ {A = Number} (Bad other) (Bad place) = sym (h .answer) ∙ e in cc
 

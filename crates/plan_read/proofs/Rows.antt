@@ -1,22 +1,21 @@
 -- Laws of the rows read one after another: from the row reader's answer back to the number, and what the lookup keeps while rows are read.
 use mathlib.Core.Path.{_≡_, refl, sym, ap, subst, _∙_}
 use mathlib.Core.List.{List, [], _∷_}
-use mathlib.Core.Bool.{Bool, true, false, cond}
+use mathlib.Core.Bool.{true, cond}
 use Prim.Native.Nat.{ℕ, zero, suc, _+_, _-_, _≤_, _<_}
 use native.Mathlib.Omega.{arith}
 use lib.ListN.{length, getD, drop, drop-of-length-le}
-use lib.Seq.{drop-cons}
-use lib.Dec.{leb, eqb}
-use borrow.Author.Tests.{eq-eqb, ne-eqb, lt-ltb, le-ltb}
-use Rattle.answers.specs.Numbers.{inputTooLong, malformedPlan}
+use lib.Dec.{eqb}
+use borrow.Author.Tests.{eq-eqb, ne-eqb}
+use Rattle.answers.specs.Numbers.{malformedPlan}
 use Rattle.leb128.specs.Number.{Parsed, value, bad, groups}
 use Rattle.leb128.specs.Answers.{numberAnswer}
 use Rattle.leb128.specs.Laws.Reading.{Rest, groups-rest}
 use Rattle.leb128.specs.declared.Number.{Number}
 use Rattle.leb128.specs.declared.Number.the-variants.{Value, Bad}
-use Rattle.plan_read.specs.Limits.{maxPlan, maxRows}
-use Rattle.plan_read.specs.Plan.{planNumber, row, rowAnswer, Plan, rows, refused, malformed, consRow, afterNumber, rowsBy, rowsFrom, planBy, planOf, noRow}
+use Rattle.plan_read.specs.Plan.{planNumber, row, rowAnswer, Plan, rows, refused, consRow, rowsFrom, noRow}
 use Rattle.plan_read.specs.Plan.{rowAt, planAnswer}
+use Rattle.plan_read.specs.Laws.Reading.{rows-more, rows-bad, rows-over, rows-end}
 use Rattle.plan_read.specs.Answers.{ReadsRow, parsedRow}
 use Rattle.plan_read.specs.declared.Row.{Row}
 use Rattle.plan_read.specs.declared.RowRead.{RowRead}
@@ -117,11 +116,10 @@ module _ (c i at n kept : ℕ) (s : List ℕ) where
   -- a turn that reads a row
   keeping-more : (r : Row) → i < n → rowAnswer at (planNumber at (drop at s)) ≡ Found r
       → keeping c i d (rowsFrom (n - i) at (drop at s)) ≡ keeping c (i + 1) (cond (eqb (i + 1) c) r d) (rowsFrom (n - (i + 1)) (r .end) (drop (r .end) s))
-  unfolding rowsBy
   keeping-more r h e =
-      let k : n - i ≡ suc (n - (i + 1)) = omega arith in
       let f = row-found at s r e in
-      rw (k, f .0, ← (f .1)) (keeping-row c i d r (rowsFrom (n - (i + 1)) (r .end) (drop (r .end) s)))
+      rw (rows-more planNumber s i n at (r .destination) (r .end) h (f .0), ← (f .1))
+      (keeping-row c i d r (rowsFrom (n - (i + 1)) (r .end) (drop (r .end) s)))
 
   -- it is the chute's, and kept, or another's
   pub keeping-new : (r : Row) → i < n → rowAnswer at (planNumber at (drop at s)) ≡ Found r → i + 1 ≡ c
@@ -137,39 +135,12 @@ module _ (c i at n kept : ℕ) (s : List ℕ) where
   -- a turn that finds anything but a row
   pub keeping-bad : (place : ℕ) → i < n → rowAnswer at (planNumber at (drop at s)) ≡ NotRow place
       → keeping c i d (rowsFrom (n - i) at (drop at s)) ≡ Refused malformedPlan place
-  unfolding rowsBy
-  keeping-bad place h e =
-      let k : n - i ≡ suc (n - (i + 1)) = omega arith in
-      rw (k, row-none at (planNumber at (drop at s)) place e)
+  keeping-bad place h e = ap (keeping c i d) (rows-bad planNumber s i n at place h (row-none at (planNumber at (drop at s)) place e))
 
   -- after the last row: bytes are left, or none
   pub keeping-over : n ≤ i → at < length s → keeping c i d (rowsFrom (n - i) at (drop at s)) ≡ Refused malformedPlan at
-  unfolding rowsBy
-  keeping-over h l = let k : n - i ≡ zero = omega arith in rw (k, drop-cons s at 0 l)
+  keeping-over h l = ap (keeping c i d) (rows-over planNumber s i n at h l)
 
   pub keeping-done : n ≤ i → length s ≤ at → keeping c i d (rowsFrom (n - i) at (drop at s)) ≡ Rows i d
-  unfolding rowsBy keptRow
-  keeping-done h l = let k : n - i ≡ zero = omega arith in let z : i + 0 ≡ i = omega arith in rw (k, drop-of-length-le s l, z)
-
--- a plan read whole, by its length and its first number
-module _ (c : ℕ) (s : List ℕ) where
-  pub whole-long : maxPlan < length s → planAnswer c (planOf s) ≡ Refused inputTooLong 0
-  unfolding planBy
-  whole-long h = rw (lt-ltb _ _ h)
-
-  abbrev pub rowsAfter : Number → PlanRead
-  rowsAfter (Value v next) = cond (leb v maxRows) (planAnswer c (rowsFrom v next (drop next s))) (Refused malformedPlan 0)
-  rowsAfter (Bad place) = Refused malformedPlan place
-
-  rows-cond : (t : Bool) (p : Plan) → cond t (planAnswer c p) (Refused malformedPlan 0) ≡ planAnswer c (cond t p (malformed 0))
-  rows-cond true p = refl
-  rows-cond false p = refl
-
-  after-number : (p : Parsed) → Rest 0 s p
-      → rowsAfter (numberAnswer p) ≡ planAnswer c (afterNumber p (λ count next rest. cond (leb count maxRows) (rowsFrom count next rest) (malformed 0)))
-  after-number (value v next rest) u = rw (← (u .1)) (rows-cond (leb v maxRows) (rowsFrom v next rest))
-  after-number (bad place) u = refl
-
-  pub whole-after : length s ≤ maxPlan → rowsAfter (numberAnswer (planNumber 0 (drop 0 s))) ≡ planAnswer c (planOf s)
-  unfolding planBy
-  whole-after h = rw (le-ltb _ _ h) (after-number (planNumber 0 s) (groups-rest true 2 0 s))
+  unfolding keptRow
+  keeping-done h l = let z : i + 0 ≡ i = omega arith in rw (rows-end planNumber s i n at h l, z)

@@ -42,7 +42,7 @@ rows-end i l out at h = rw (drop-of-length-le l h)
 
 -- what an accepted length says
 module _ (l : List ℕ) (p : PlanLength) (e : p ≡ lengthOf l) (z : p .number ≡ done) where
-  known-allowed : allowed l ≡ true
+  pub known-allowed : allowed l ≡ true
   unfolding lengthOf
   known-allowed = go (allowed l) (sym (ap (λ (q : PlanLength). q .number) e) ∙ z)
     where

@@ -1,16 +1,18 @@
 -- A long plan is refused before it is read. Else the plan hangs on its first number, by the definition's own cases: too many rows, the rows that
 -- `read_rows` reads, or no number.
 use mathlib.Core.Path.{_≡_, refl, sym, ap, _∙_}
+use mathlib.Core.Bool.{true}
 use Prim.Native.Nat.{ℕ, _≤_, _<_}
 use native.Mathlib.Omega.{arith}
 use denote.Ref.{now}
 use borrow.Author.Tests.{le-leb, lt-leb}
+use Rattle.leb128.specs.Laws.Reading.{groups-rest}
 use Rattle.leb128.specs.declared.Number.the-variants.{Value}
 use Rattle.plan_read.specs.Limits.{maxRows}
-use Rattle.plan_read.specs.Plan.{Plan, rows, refused, planOf, planAnswer}
+use Rattle.plan_read.specs.Plan.{Plan, rows, refused, planNumber, planOf, planAnswer}
 use Rattle.plan_read.specs.Answers.{planValues, parsedPlan, ReadsPlan}
 use Rattle.plan_read.specs.declared.PlanRead.{PlanRead}
-use Rattle.plan_read.proofs.Rows.{rowsAfter, whole-long, whole-after}
+use Rattle.plan_read.specs.Laws.Reading.{rowsAfter, whole-long, whole-after}
 use borrow.Author.Needs.{needs}
 use Rattle.plan_read.proofs.read_whole.Statement.{statement}
 use Rattle.plan_read.proofs.read_whole.Tie as tie
@@ -28,21 +30,21 @@ start n = n .before .before .before
 
 -- what the plan is after its first number
 after : (n : tie.After-number-at)
-    → let a = start n .args in rowsAfter (a .chute) (now (a .plan)) (n .number-at .result) ≡ planAnswer (a .chute) (planOf (now (a .plan)))
+    → let a = start n .args in rowsAfter planNumber (now (a .plan)) (planAnswer (a .chute)) (n .number-at .result) ≡ planAnswer (a .chute) (planOf (now (a .plan)))
 after n =
     let a = start n .args in
-    ap (rowsAfter (a .chute) (now (a .plan))) (n .number-at .ensures .answer) ∙ whole-after (a .chute) (now (a .plan)) (n .before .if1 .left)
+    ap (rowsAfter planNumber (now (a .plan)) (planAnswer (a .chute))) (n .number-at .ensures .answer) ∙ whole-after planNumber (now (a .plan)) (planAnswer (a .chute)) (groups-rest true 2 0 (now (a .plan))) (n .before .if1 .left)
 
 -- where there is one
 known : (c : tie.After-value) → let a = start (c .before .before) .args in
-    rowsAfter (a .chute) (now (a .plan)) (Value (c .value .given .0 .0) (c .value .given .0 .1 .0)) ≡ planAnswer (a .chute) (planOf (now (a .plan)))
+    rowsAfter planNumber (now (a .plan)) (planAnswer (a .chute)) (Value (c .value .given .0 .0) (c .value .given .0 .1 .0)) ≡ planAnswer (a .chute) (planOf (now (a .plan)))
 known c =
     let n = c .before .before in
     let a = start n .args in
-    sym (ap (rowsAfter (a .chute) (now (a .plan))) (c .value .given .1)) ∙ after n
+    sym (ap (rowsAfter planNumber (now (a .plan)) (planAnswer (a .chute))) (c .value .given .1)) ∙ after n
 
 returns : tie.Need-returns
-returns c = answers-as _ _ _ (sym (whole-long _ _ (c .if1 .taken)))
+returns c = answers-as _ _ _ (sym (whole-long planNumber _ (planAnswer _) (c .if1 .taken)))
 
 number-at-requires : tie.Need-number-at-requires
 number-at-requires c κs = search needs
@@ -79,7 +81,7 @@ returns-4 c =
     let m = c .before .before in
     let n = m .before .before in
     let a = start n .args in
-    answers-as _ _ _ (c .malformed2 .ensures ∙ sym (ap (rowsAfter (a .chute) (now (a .plan))) (m .place .given .1)) ∙ after n)
+    answers-as _ _ _ (c .malformed2 .ensures ∙ sym (ap (rowsAfter planNumber (now (a .plan)) (planAnswer (a .chute))) (m .place .given .1)) ∙ after n)
 
 pub read-whole-spec : {M : Type 1} → statement M
 read-whole-spec =

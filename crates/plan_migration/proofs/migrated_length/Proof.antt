@@ -1,0 +1,103 @@
+-- A long plan is refused before it is read. Else the length hangs on the first number, by the definition's own cases: too many rows, the rows that
+-- `rows_length` reads and counts, or no number.
+use mathlib.Core.Path.{_≡_, sym, ap, _∙_}
+use Prim.Native.Nat.{_≤_, _<_}
+use native.Mathlib.Omega.{arith}
+use borrow.Author.Needs.{needs}
+use borrow.Author.Tests.{le-leb, lt-leb}
+use denote.Ref.{now}
+use lib.ListN.{drop}
+use Rattle.leb128.specs.declared.Number.the-variants.{Value}
+use Rattle.old_number.specs.OldNumber.{oldNumber}
+use Rattle.plan_read.specs.Limits.{maxRows}
+use Rattle.plan_read.specs.Plan.{rowsBy}
+use Rattle.plan_read.specs.Laws.Reading.{rowsAfter, whole-long, whole-after}
+use Rattle.plan_migration.specs.Migration.{migratedLength, migratedLengthOf}
+use Rattle.plan_migration.proofs.Rows.{first-rest, rows-readable, length-counted}
+use Rattle.plan_migration.proofs.migrated_length.Statement.{statement}
+use Rattle.plan_migration.proofs.migrated_length.Tie as tie
+
+abbrev start : tie.After-old-number-at → tie.Start
+start n = n .before .before .before
+
+-- the length, by the first number
+after : (n : tie.After-old-number-at)
+    → let a = start n .args in rowsAfter oldNumber (now (a .plan)) migratedLength (n .old-number-at .result) ≡ migratedLengthOf (now (a .plan))
+unfolding migratedLengthOf
+after n =
+    let a = start n .args in
+    ap (rowsAfter oldNumber (now (a .plan)) migratedLength) (n .old-number-at .ensures .answer)
+    ∙ whole-after oldNumber (now (a .plan)) migratedLength (first-rest (now (a .plan))) (n .before .if1 .left)
+
+-- where there is one
+known : (c : tie.After-value) → let a = start (c .before .before) .args in
+    rowsAfter oldNumber (now (a .plan)) migratedLength (Value (c .value .given .0 .0) (c .value .given .0 .1 .0)) ≡ migratedLengthOf (now (a .plan))
+known c =
+    let n = c .before .before in
+    let a = start n .args in
+    sym (ap (rowsAfter oldNumber (now (a .plan)) migratedLength) (c .value .given .1)) ∙ after n
+
+unread-requires : tie.Need-unread-requires
+unread-requires c κs = search needs
+
+returns : tie.Need-returns
+unfolding migratedLengthOf
+returns c = c .unread .ensures ∙ sym (whole-long oldNumber _ migratedLength (c .before .if1 .taken))
+
+old-number-at-requires : tie.Need-old-number-at-requires
+old-number-at-requires c κs = search needs
+
+enum-known-value : tie.Need-enum-known-value
+enum-known-value c = search needs
+
+unread-requires-2 : tie.Need-unread-requires-2
+unread-requires-2 c κs = search needs
+
+returns-2 : tie.Need-returns-2
+returns-2 c =
+    let m = c .before .before .before in
+    let many : maxRows < m .value .given .0 .0 = omega (arith, c .before .if2 .taken) in
+    c .unread2 .ensures ∙ (rw (lt-leb _ _ many)) ∙ known m
+
+rows-length-requires : tie.Need-rows-length-requires
+rows-length-requires c κs = search needs
+
+enum-known-place : tie.Need-enum-known-place
+enum-known-place c = search needs
+
+unread-requires-3 : tie.Need-unread-requires-3
+unread-requires-3 c κs = search needs
+
+returns-3 : tie.Need-returns-3
+returns-3 c =
+    let m = c .before .before .before in
+    let a = start (m .before .before) .args in
+    let v = m .value .given .0 .0 in
+    let next = m .value .given .0 .1 .0 in
+    let bounded : m .value .given .0 .0 ≤ maxRows = omega (arith, c .before .if2 .left) in
+    c .rows-length .ensures
+    ∙ length-counted v (rowsBy oldNumber v next (drop next (now (a .plan)))) bounded (rows-readable v next (drop next (now (a .plan))))
+    ∙ (rw (le-leb _ _ bounded)) ∙ known m
+
+returns-4 : tie.Need-returns-4
+returns-4 c =
+    let m = c .before .before in
+    let n = m .before .before in
+    let a = start n .args in
+    c .unread3 .ensures ∙ sym (ap (rowsAfter oldNumber (now (a .plan)) migratedLength) (m .place .given .1)) ∙ after n
+
+pub migrated-length-spec : {M : Type 1} → statement M
+migrated-length-spec =
+    tie.close
+    (tie.spec
+    unread-requires
+    returns
+    old-number-at-requires
+    enum-known-value
+    unread-requires-2
+    returns-2
+    rows-length-requires
+    enum-known-place
+    unread-requires-3
+    returns-3
+    returns-4)
