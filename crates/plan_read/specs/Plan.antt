@@ -1,7 +1,7 @@
 -- A plan (docs/RULES.md, 'Chute plan'): the number of rows, at most 4,096, then each row's destination, then nothing more. Reading a plan of
 -- more than 65,536 bytes is refused with 5, a malformed one with 9.
 use Prim.Native.Nat.{ℕ, zero, suc}
-use mathlib.Core.List.{List, [], _∷_}
+use mathlib.Core.List.{List, [], _∷_, map}
 use mathlib.Core.Bool.{cond}
 use lib.Dec.{ltb, leb}
 use lib.ListN.{length, getD}
@@ -75,6 +75,10 @@ noRow = row 0 0 0
 abbrev pub rowAt : ℕ → List Row → Row
 rowAt zero l = noRow
 rowAt (suc c) l = getD l c noRow
+
+-- the destinations of rows, in order
+abbrev pub rowDestinations : List Row → List ℕ
+rowDestinations l = map (λ (r : Row). r .destination) l
 
 -- the code's answer of one pass that keeps the row of a chute
 abbrev pub planAnswer : ℕ → Plan → PlanRead
