@@ -16,7 +16,23 @@ use Rattle.leb128.specs.Laws.Reading.{Used, limit-three, groups-used}
 use Rattle.leb128_write.specs.Written.{writtenNumber}
 use Rattle.leb128_write.specs.FormLaws.{Form, groups-form}
 use Rattle.plan_read.specs.Limits.{maxPlan, maxRows, maxDestination}
-use Rattle.plan_read.specs.Plan.{Plan, rows, refused, malformed, consRow, afterNumber, planNumber, row, rowsBy, rowsFrom, planIn, planBy, planOf, planAnswer, rowDestinations}
+use Rattle.plan_read.specs.Plan.{
+  Plan,
+  rows,
+  refused,
+  malformed,
+  consRow,
+  afterNumber,
+  planNumber,
+  row,
+  rowsBy,
+  rowsFrom,
+  planIn,
+  planBy,
+  planOf,
+  planAnswer,
+  rowDestinations,
+}
 use Rattle.plan_read.specs.declared.Row.{Row}
 use Rattle.plan_read.specs.Laws.Refusals.{Numbered, plan-numbered}
 use Rattle.plan.specs.Answers.{summary, summaryOf, foundDestination, lookupIn}

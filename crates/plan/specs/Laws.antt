@@ -15,7 +15,19 @@ use Rattle.plan_read.specs.Places.{RowIn}
 use Rattle.plan_read.specs.Laws.Rows.{RowsIn, plan-in}
 use Rattle.plan_read.specs.Laws.Refusals.{Numbered, plan-numbered}
 use Rattle.plan_read.specs.declared.Row.{Row}
-use Rattle.plan.specs.Answers.{summaryOf, hasChute, rowFound, noChuteRow, chuteRow, chuteRowOf, destinationOf, foundDestination, noDestination, lookupOf, lookupIn}
+use Rattle.plan.specs.Answers.{
+  summaryOf,
+  hasChute,
+  rowFound,
+  noChuteRow,
+  chuteRow,
+  chuteRowOf,
+  destinationOf,
+  foundDestination,
+  noDestination,
+  lookupOf,
+  lookupIn,
+}
 use Rattle.plan.specs.declared.Lookup.{Lookup}
 
 module _ (s : List ℕ) (l : List Row) (e : planOf s ≡ rows l) where
