@@ -66,7 +66,11 @@ unfolding pairs
 pairs-back [] = refl
 pairs-back (e ∷ l) = ap (λ (x : List Entry). e ∷ x) (pairs-back l)
 
--- so the lists are allowed
+-- and so the two lists tell the entries
+pub entries-same : (l m : List Entry) → kindsOf l ≡ kindsOf m → valuesOf l ≡ valuesOf m → l ≡ m
+entries-same l m k v = sym (pairs-back l) ∙ rw (k, v) (pairs-back m)
+
+-- a hall's lists are allowed
 pub hall-allowed : (h : Hall) → HallLimits h → listsAllowed (count h) (kindsOf (listed h)) (valuesOf (listed h)) ≡ true
 unfolding listsAllowed hallsAllowed
 hall-allowed h w =

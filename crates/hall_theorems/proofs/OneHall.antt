@@ -1,22 +1,10 @@
 -- A hall's number of entries and its two lists tell it from every other.
 use mathlib.Core.Path.{_≡_, refl, sym, ap, _∙_}
-use mathlib.Core.List.{List, [], _∷_, _++_, append-assoc}
-use Prim.Native.Nat.{ℕ}
+use mathlib.Core.List.{List, [], _++_, append-assoc}
 use native.Mathlib.Omega.{arith}
-use lib.ListN.{length}
 use Rattle.hall_entry.specs.Entries.{Entry, entry, chuteKind, hallKind, kindsOf, valuesOf}
 use Rattle.hall_theorems.specs.Tree.{Hall, none, chute, inner, count, listed}
-
-entries-same : (l m : List Entry) → kindsOf l ≡ kindsOf m → valuesOf l ≡ valuesOf m → l ≡ m
-entries-same [] [] a b = refl
-entries-same [] (e ∷ m) a b = absurd (omega (arith, ap length a))
-entries-same (e ∷ l) [] a b = absurd (omega (arith, ap length a))
-entries-same (e ∷ l) (f ∷ m) a b =
-    let k : e .kind ≡ f .kind = cc in
-    let v : e .value ≡ f .value = cc in
-    let ks : kindsOf l ≡ kindsOf m = cc in
-    let vs : valuesOf l ≡ valuesOf m = cc in
-    rw (entries-same l m ks vs) (ap (λ (x : Entry). x ∷ m) (rw (k, v)))
+use Rattle.hall_theorems.proofs.Lists.{entries-same}
 
 same-halls : (h k : Hall) (x y : List Entry) → count h ≡ count k → listed h ++ x ≡ listed k ++ y → (h ≡ k) × (x ≡ y)
 unfolding count listed

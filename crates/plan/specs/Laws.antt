@@ -1,21 +1,34 @@
 -- Laws of the questions on one plan: of a plan that is not refused, reading, rows and lookups agree with the list of its rows at every chute, and a row that
 -- is found lies inside the plan.
-use mathlib.Core.Path.{_≡_, refl, ap}
+use mathlib.Core.Path.{_≡_, refl, sym, ap, _∙_}
 use mathlib.Core.List.{List}
 use mathlib.Core.Bool.{Bool, true, false, cond, _&&_}
 use Prim.Native.Nat.{ℕ, zero, suc, _≤_, _<_}
 use native.Mathlib.Omega.{arith}
-use lib.ListN.{length, getD}
-use lib.Dec.{leb}
-use borrow.Author.Tests.{le-leb, lt-leb, leb-true}
+use lib.ListN.{length, getD, length-map, List·getD-map}
+use lib.Dec.{ltb, leb}
+use borrow.Author.Tests.{le-leb, lt-leb, leb-true, ltb-true, ltb-false}
 use Rattle.answers.specs.Numbers.{done, noSuchChute}
 use Rattle.answers.specs.Breaches.{noPlace}
-use Rattle.plan_read.specs.Plan.{Plan, rows, refused, planOf, planAnswer, noRow}
+use Rattle.plan_read.specs.Plan.{Plan, rows, refused, planOf, planAnswer, noRow, rowDestinations}
 use Rattle.plan_read.specs.Places.{RowIn}
 use Rattle.plan_read.specs.Laws.Rows.{RowsIn, plan-in}
 use Rattle.plan_read.specs.Laws.Refusals.{Numbered, plan-numbered}
 use Rattle.plan_read.specs.declared.Row.{Row}
-use Rattle.plan.specs.Answers.{summaryOf, hasChute, rowFound, noChuteRow, chuteRow, chuteRowOf, destinationOf, foundDestination, noDestination, lookupOf}
+use Rattle.plan.specs.Answers.{
+  summaryOf,
+  hasChute,
+  rowFound,
+  noChuteRow,
+  chuteRow,
+  chuteRowOf,
+  destinationOf,
+  foundDestination,
+  noDestination,
+  lookupOf,
+  lookupIn,
+}
+use Rattle.plan.specs.declared.Lookup.{Lookup}
 
 module _ (s : List ℕ) (l : List Row) (e : planOf s ≡ rows l) where
   pub chute-row : (c : ℕ) → c < length l → chuteRowOf s (suc c) ≡ rowFound (getD l c noRow)
@@ -44,6 +57,21 @@ module _ (s : List ℕ) (l : List Row) (e : planOf s ≡ rows l) where
   pub lookup-past : (c : ℕ) → length l < c → lookupOf s c ≡ noDestination noSuchChute noPlace
   unfolding lookupOf
   lookup-past c h = ap destinationOf (chute-past c h)
+
+  -- at every chute, as the list of destinations has it
+  pub lookup-rows : (chute : ℕ) → lookupOf s chute ≡ lookupIn (rowDestinations l) chute
+  lookup-rows zero = lookup-zero
+  lookup-rows (suc c) = go (ltb c (length (rowDestinations l))) refl
+    where
+      same : length (rowDestinations l) ≡ length l
+      same = length-map l (λ (r : Row). r .destination)
+
+      go : (t : Bool) → ltb c (length (rowDestinations l)) ≡ t
+          → lookupOf s (suc c) ≡ cond {A = Lookup} t (foundDestination (getD (rowDestinations l) c 0)) (noDestination noSuchChute noPlace)
+      go true h =
+          let some : c < length (rowDestinations l) = ltb-true _ _ h in
+          lookup-row c (omega (arith, same)) ∙ ap foundDestination (sym (List·getD-map (λ (r : Row). r .destination) l c noRow))
+      go false h = let none : length (rowDestinations l) ≤ c = ltb-false _ _ h in lookup-past (suc c) (omega (arith, same))
 
   pub count-rows : summaryOf s ≡ record { number = done; rows = length l; place = noPlace }
   unfolding summaryOf

@@ -1,27 +1,25 @@
 -- Reading what was written gives the rows: the plan's bytes read as the rows, whose lookups are the list's.
-use mathlib.Core.Path.{_≡_, refl, _∙_}
+use mathlib.Core.Path.{_≡_, refl, sym, ap, _∙_}
 use mathlib.Core.List.{List, [], _∷_}
 use mathlib.Core.Bool.{Bool, true, false, cond, _&&_}
-use Prim.Native.Nat.{ℕ, zero, suc, _≤_, _<_}
+use Prim.Native.Nat.{ℕ, _≤_}
 use native.Mathlib.Omega.{arith}
-use lib.ListN.{length, getD}
-use lib.Dec.{ltb, leb, eqb}
-use borrow.Author.Tests.{ltb-true, ltb-false, leb-true, le-leb, eq-eqb}
-use Rattle.answers.specs.Numbers.{done, malformedPlan, noSuchChute}
-use Rattle.answers.specs.Breaches.{noPlace}
+use lib.ListN.{length, length-map}
+use lib.Dec.{leb, eqb}
+use borrow.Author.Tests.{leb-true, le-leb, eq-eqb}
+use Rattle.answers.specs.Numbers.{done, malformedPlan}
 use Rattle.leb128_write.specs.Written.{writtenNumber}
 use Rattle.plan_read.specs.Limits.{maxRows, maxDestination}
-use Rattle.plan_read.specs.Plan.{rows, planOf}
-use Rattle.plan.specs.Answers.{lookupOf, lookupIn, foundDestination, noDestination}
-use Rattle.plan.specs.Laws.{lookup-row, lookup-zero, lookup-past, count-rows}
+use Rattle.plan_read.specs.Plan.{rows, planOf, rowDestinations}
+use Rattle.plan.specs.Answers.{lookupIn}
+use Rattle.plan.specs.Laws.{lookup-rows, count-rows}
 use Rattle.plan_read.specs.declared.Row.{Row}
-use Rattle.plan.specs.declared.Lookup.{Lookup}
 use Rattle.plan_length.specs.Length.{writtenPlan, rowsAllowed, allowed, lengthIs, noLength, lengthOf}
 use Rattle.plan_length.specs.Laws.{and-left, and-right}
 use Rattle.plan_length.specs.declared.PlanLength.{PlanLength}
 use Rattle.plan_write.specs.Write.{fills, writeRefusal, writtenOf}
 use Rattle.plan_write.specs.RoundTrip.{ReadsAs, EachFits, RoundTrip}
-use Rattle.plan_write.specs.WriteLaws.{placed, placed-length, placed-row, plan-back}
+use Rattle.plan_write.specs.WriteLaws.{placed, placed-destinations, plan-back}
 
 -- rows that keep the rules: their plan answers as they do
 module _ (l : List ℕ) (ok : allowed l ≡ true) where
@@ -33,25 +31,18 @@ module _ (l : List ℕ) (ok : allowed l ≡ true) where
   plan-rows =
       plan-back l (leb-true _ _ (and-left (leb (length l) maxRows) (rowsAllowed l) ok)) (and-right (leb (length l) maxRows) (rowsAllowed l) ok)
 
-  same-length : length d ≡ length l
-  same-length = placed-length (length (writtenNumber (length l))) l
+  same : rowDestinations d ≡ l
+  same = placed-destinations (length (writtenNumber (length l))) l
 
-  every : (chute : ℕ) → lookupOf (writtenPlan l) chute ≡ lookupIn l chute
-  every zero = lookup-zero (writtenPlan l) d plan-rows
-  every (suc c) = go (ltb c (length l)) refl
-    where
-      go : (t : Bool) → ltb c (length l) ≡ t
-          → lookupOf (writtenPlan l) (suc c) ≡ cond {A = Lookup} t (foundDestination (getD l c 0)) (noDestination noSuchChute noPlace)
-      go true e =
-          let h : c < length l = ltb-true _ _ e in
-          let g : c < length d = omega (arith, same-length) in
-          lookup-row (writtenPlan l) d plan-rows c g ∙ rw (placed-row (length (writtenNumber (length l))) l c)
-      go false e =
-          let h : length l ≤ c = ltb-false _ _ e in
-          lookup-past (writtenPlan l) d plan-rows (suc c) (omega (arith, same-length))
+  same-length : length d ≡ length l
+  same-length = sym (length-map d (λ (r : Row). r .destination)) ∙ ap length same
 
   reads-as : ReadsAs l (writtenPlan l)
-  reads-as = record { count = count-rows (writtenPlan l) d plan-rows ∙ rw same-length; every-chute = every }
+  reads-as =
+      record {
+        count = count-rows (writtenPlan l) d plan-rows ∙ rw same-length;
+        every-chute = λ chute. lookup-rows (writtenPlan l) d plan-rows chute ∙ ap (λ (m : List ℕ). lookupIn m chute) same;
+      }
 
 written-reads : (l out : List ℕ) → writeRefusal l (length out) ≡ done → ReadsAs l (writtenOf l out)
 unfolding writeRefusal writtenOf fills

@@ -2,15 +2,15 @@
 use mathlib.Core.Path.{_≡_, refl, ap}
 use mathlib.Core.List.{List, [], _∷_, _++_}
 use mathlib.Core.Bool.{true}
-use Prim.Native.Nat.{ℕ, zero, suc, _+_, _*_, _≤_}
+use Prim.Native.Nat.{ℕ, _+_, _*_, _≤_}
 use native.Mathlib.Omega.{arith}
-use lib.ListN.{length, getD, length-append}
+use lib.ListN.{length, length-append}
 use lib.Dec.{leb}
 use borrow.Author.Tests.{le-ltb, le-leb, leb-true}
 use Rattle.leb128_write.specs.Written.{writtenNumber}
 use Rattle.leb128_write.specs.Laws.{groups-count, number-read}
 use Rattle.plan_read.specs.Limits.{maxPlan, maxRows, maxDestination}
-use Rattle.plan_read.specs.Plan.{rows, row, rowsBy, rowsFrom, planBy, planOf, noRow}
+use Rattle.plan_read.specs.Plan.{rows, row, rowsBy, rowsFrom, planBy, planOf, rowDestinations}
 use Rattle.plan_read.specs.declared.Row.{Row}
 use Rattle.plan_length.specs.Length.{writtenRows, writtenPlan, rowsAllowed}
 use Rattle.plan_length.specs.Laws.{and-left, and-right}
@@ -20,16 +20,10 @@ pub placed : ℕ → List ℕ → List Row
 placed at [] = []
 placed at (v ∷ l) = row v at (at + length (writtenNumber v)) ∷ placed (at + length (writtenNumber v)) l
 
-pub placed-length : (at : ℕ) (l : List ℕ) → length (placed at l) ≡ length l
+pub placed-destinations : (at : ℕ) (l : List ℕ) → rowDestinations (placed at l) ≡ l
 unfolding placed
-placed-length at [] = refl
-placed-length at (v ∷ l) = ap suc (placed-length (at + length (writtenNumber v)) l)
-
-pub placed-row : (at : ℕ) (l : List ℕ) (c : ℕ) → getD (placed at l) c noRow .destination ≡ getD l c 0
-unfolding placed
-placed-row at [] c = refl
-placed-row at (v ∷ l) zero = refl
-placed-row at (v ∷ l) (suc c) = placed-row (at + length (writtenNumber v)) l c
+placed-destinations at [] = refl
+placed-destinations at (v ∷ l) = ap (λ (m : List ℕ). v ∷ m) (placed-destinations (at + length (writtenNumber v)) l)
 
 rows-back : (at : ℕ) (l : List ℕ) → rowsAllowed l ≡ true → rowsFrom (length l) at (writtenRows l) ≡ rows (placed at l)
 unfolding rowsBy writtenRows rowsAllowed placed

@@ -1,0 +1,4 @@
+pub mod Plans
+pub mod Halls
+pub mod HallAnswers
+pub mod CanonicalTheorems

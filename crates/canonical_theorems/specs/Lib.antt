@@ -1,0 +1,2 @@
+-- That every plan has one form.
+pub mod CanonicalTheorems
