@@ -143,7 +143,7 @@ pub record RowsOf (s : List ℕ) : Type 0 where
   pub all : List Row
   pub is : planOf s ≡ rows all
 
-accepted-rows : (s : List ℕ) → summaryOf s .number ≡ done → RowsOf s
+pub accepted-rows : (s : List ℕ) → summaryOf s .number ≡ done → RowsOf s
 unfolding summaryOf
 accepted-rows s z = go (planOf s) refl (plan-numbered s) z
   where

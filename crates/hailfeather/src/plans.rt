@@ -1,9 +1,10 @@
-// The chute plan: reading, looking up, the row of two plans as an offset and a length, writing, and walking.
+// The chute plan: reading, looking up, the row of two plans as an offset and a length, writing, walking, and migrating.
 ghost use mathlib.Core.Path.{_≡_};
 ghost use Rattle.plan.specs.Answers.{summaryOf, lookupOf};
 ghost use Rattle.plan_pair.specs.Pair.{locationOf};
 ghost use Rattle.plan_length.specs.Length.{lengthOf};
 ghost use Rattle.plan_write.specs.Write.{WritesPlan};
+ghost use Rattle.plan_migration.specs.Migration.{migratedLengthOf, Migrates};
 ghost use Rattle.plan_walk.specs.Walk.{walkStart, walkStep};
 ghost use Rattle.c_plan.specs.Row.{exportedLocation};
 ghost use Rattle.c_plan.specs.Walk.{exportedAnswer};
@@ -62,4 +63,18 @@ pub extern "C" fn hf_plan_step(plan: &[u8], walk: Cursor) -> CWalk
     ensures { λ r. ⌜ r ≡ exportedAnswer (walkStep (now (plan .entry)) walk) ⌝ }
 {
     c_plan::step(plan, walk)
+}
+
+#[no_mangle]
+pub extern "C" fn hf_plan_migrated_length(plan: &[u8]) -> PlanLength
+    ensures { λ r. ⌜ r ≡ migratedLengthOf (now (plan .entry)) ⌝ }
+{
+    plan_migration::migrated_length(plan)
+}
+
+#[no_mangle]
+pub extern "C" fn hf_plan_migrate(plan: &[u8], out: &mut [u8]) -> PlanWritten
+    ensures { λ r. ⌜ Migrates (now (plan .entry)) (now (out .entry)) (now (out .exit)) r ⌝ }
+{
+    plan_migration::migrate(plan, out)
 }

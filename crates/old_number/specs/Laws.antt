@@ -113,9 +113,10 @@ as-old isFirst (suc more) at (b ∷ s) = go (ltb b 128) refl (as-old false more 
     go true l ih = last-old at b s isFirst l
     go false l ih = next-old at b s later after ∙ ap (nextGroup (b % 128)) ih
 
--- of a number v that was read at the place `at`, up to the place n: one byte or more, `rest` is what is left, and it has no more groups than it may have
+-- of a number v that was read at the place `at`, up to the place n: one byte or more and none past the end, `rest` is what is left, and v fits the groups
 pub record OldUsedBytes (more at : ℕ) (s : List ℕ) (v n : ℕ) (rest : List ℕ) : Type 0 where
   pub some : at + 1 ≤ n
+  pub inside : n ≤ at + length s
   pub left : rest ≡ drop (n - at) s
   pub below : v < limit more
 
@@ -127,13 +128,13 @@ last-used : (more at b : ℕ) (s : List ℕ) → ltb b 128 ≡ true → OldUsedB
 last-used more at b s l =
     let small : b < 128 = ltb-true _ _ l in
     let k : at + 1 - at ≡ suc 0 = omega arith in
-    record { some = omega arith; left = rw k; below = omega (arith, limit-least more) }
+    record { some = omega arith; inside = omega arith; left = rw k; below = omega (arith, limit-least more) }
 
 next-used : (more at b : ℕ) (s : List ℕ) (p : Parsed) → OldUsed more (at + 1) s p → OldUsed (suc more) at (b ∷ s) (nextGroup (b % 128) p)
 unfolding limit
 next-used more at b s (value v n rest) u =
     let k : n - at ≡ suc (n - (at + 1)) = omega (arith, u .some) in
-    record { some = omega (arith, u .some); left = rw k (u .left); below = omega (arith, u .below) }
+    record { some = omega (arith, u .some); inside = omega (arith, u .inside); left = rw k (u .left); below = omega (arith, u .below) }
 next-used more at b s (bad place) u = tt
 
 pub old-used : (more at : ℕ) (s : List ℕ) → OldUsed more at s (oldGroups more at s)

@@ -18,6 +18,7 @@ fn of_one(letter: u8, bytes: &[u8], chute: u64) {
         b'h' => printing::print(bytes),
         b'l' => line(bytes, chute),
         b'w' => written(bytes),
+        b'm' => migrated(bytes),
         _ => walked(bytes),
     }
 }
@@ -143,6 +144,34 @@ fn write_into(rows: &[u32], buffer: &mut [u8], lent: usize) {
         return;
     }
     let found = plan_write::write_plan(rows, &mut buffer[..lent]);
+    answer(
+        found.number,
+        testing::add_bytes(0, &buffer[..]),
+        found.place,
+    );
+}
+
+// The length of the migrated plan, and then the refusal and all of the buffer for that length, one byte more, one less, and the plan's own length.
+fn migrated(plan: &[u8]) {
+    let needed = plan_migration::migrated_length(plan);
+    let length = needed.length;
+    answer(needed.number, length as u64, needed.place);
+    migrate(plan, length);
+    migrate(plan, std::num::wrapping_add_usize(length, 1));
+    migrate(plan, if 0 < length { length - 1 } else { 0 });
+    migrate(plan, plan.len());
+}
+
+fn migrate(plan: &[u8], lent: usize) {
+    let mut buffer = [238u8; 12300];
+    migrate_into(plan, &mut buffer, lent);
+}
+
+fn migrate_into(plan: &[u8], buffer: &mut [u8], lent: usize) {
+    if buffer.len() < lent {
+        return;
+    }
+    let found = plan_migration::migrate(plan, &mut buffer[..lent]);
     answer(
         found.number,
         testing::add_bytes(0, &buffer[..]),

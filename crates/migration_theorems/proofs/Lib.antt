@@ -1,0 +1,4 @@
+pub mod Numbers
+pub mod Plans
+pub mod Examples
+pub mod MigrationTheorems

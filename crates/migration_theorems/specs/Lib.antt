@@ -1,0 +1,3 @@
+-- What holds of migration, and worked examples.
+pub mod MigrationTheorems
+pub mod Examples
