@@ -2,36 +2,28 @@
 -- the present rule has one form, which is what is written.
 use mathlib.Core.Path.{_≡_, refl, sym, ap, _∙_}
 use mathlib.Core.List.{List}
-use mathlib.Core.Bool.{Bool, true, false}
 use Prim.Native.Nat.{ℕ, _≤_}
 use native.Mathlib.Omega.{arith}
 use lib.ListN.{length}
 use Rattle.answers.specs.Numbers.{done}
 use Rattle.encode.specs.Laws.Bytes.{Bytes}
-use Rattle.plan_read.specs.Plan.{Plan, rows, refused, planOf, rowDestinations}
+use Rattle.plan_read.specs.Plan.{Plan, rows, refused, rowDestinations}
 use Rattle.plan_read.specs.declared.Row.{Row}
 use Rattle.plan.specs.Answers.{summaryOf}
-use Rattle.plan_length.specs.Length.{writtenPlan, lengthIs, lengthOf}
+use Rattle.plan_length.specs.Length.{lengthOf}
 use Rattle.plan_length.specs.declared.PlanLength.{PlanLength}
 use Rattle.plan_length.specs.declared.PlanWritten.{PlanWritten}
 use Rattle.plan_write.specs.Write.{writeRefusal, writtenOf}
-use Rattle.plan_write.specs.RoundTrip.{ReadsAs}
 use Rattle.plan_write.proofs.RoundTrip.{round-trip}
-use Rattle.canonical_theorems.proofs.Plans.{RowsOf, accepted-rows, plan-written, write-back}
-use Rattle.plan_migration.specs.Migration.{oldPlanOf, unread, migratedLength, migratedLengthOf, migrateAnswer, migratedInto, Migrates}
+use Rattle.canonical_theorems.proofs.Plans.{accepted-rows, plan-written, write-back}
+use Rattle.plan_migration.specs.Migration.{oldPlanOf, migratedLengthOf, migrateAnswer, migratedInto, Migrates}
 use Rattle.migration_theorems.specs.MigrationTheorems.{MigratesTo, StaysAsItIs, RefusedAs, MigrationTheorems}
-use Rattle.migration_theorems.proofs.Plans.{same-rows, OldPlan, old-plan}
+use Rattle.migration_theorems.proofs.Plans.{same-rows, old-plan}
+use Rattle.migration_theorems.proofs.Lengths.{length-written, length-is, no-length}
+use Rattle.migration_theorems.proofs.Places.{place-in}
 
 -- a plan that the old rule reads
 module _ (s : List ℕ) (l : List Row) (e : oldPlanOf s ≡ rows l) where
-  length-is : migratedLengthOf s ≡ lengthIs (length (writtenPlan (rowDestinations l)))
-  unfolding migratedLengthOf lengthOf
-  length-is = rw (e, old-plan s l e .keeps)
-
-  written : lengthOf (rowDestinations l) ≡ lengthIs (length (writtenPlan (rowDestinations l)))
-  unfolding lengthOf
-  written = rw (old-plan s l e .keeps)
-
   module _ (out after : List ℕ) (r : PlanWritten) (m : Migrates s out after r) where
     number-is : r .number ≡ writeRefusal (rowDestinations l) (length out)
     number-is = ap (λ (q : PlanWritten). q .number) (m .answer ∙ ap (migrateAnswer (length out)) e)
@@ -42,12 +34,12 @@ module _ (s : List ℕ) (l : List Row) (e : oldPlanOf s ≡ rows l) where
   migrates-to : MigratesTo s (rowDestinations l)
   migrates-to =
       record {
-        has-length = ap (λ (q : PlanLength). q .number) length-is;
+        has-length = ap (λ (q : PlanLength). q .number) (length-is s l e);
         accepted = λ out after r m n.
-            let same : length out ≡ lengthOf (rowDestinations l) .length = n ∙ ap (λ (q : PlanLength). q .length) (length-is ∙ sym written) in
+            let same : length out ≡ lengthOf (rowDestinations l) .length = n ∙ ap (λ (q : PlanLength). q .length) (length-is s l e ∙ sym (length-written s l e)) in
             number-is out after r m
             ∙ ap (writeRefusal (rowDestinations l)) same
-            ∙ round-trip .length-accepted (rowDestinations l) (ap (λ (q : PlanLength). q .number) written);
+            ∙ round-trip .length-accepted (rowDestinations l) (ap (λ (q : PlanLength). q .number) (length-written s l e));
         reads = λ out after r m z.
             rw (buffer-is out after r m) (round-trip .reads-back (rowDestinations l) out (sym (number-is out after r m) ∙ z));
       }
@@ -63,10 +55,9 @@ as-it-is s h z =
     }
 
 refused-as : (s : List ℕ) (n place : ℕ) → oldPlanOf s ≡ refused n place → RefusedAs s n place
-unfolding migratedLengthOf
 refused-as s n place e =
     record {
-      no-length = ap migratedLength e;
+      no-length = no-length s n place e;
       answer = λ out after r m. m .answer ∙ ap (migrateAnswer (length out)) e;
       nothing-written = λ out after r m. m .buffer ∙ ap (migratedInto out) e;
     }
@@ -76,8 +67,8 @@ no-longer s = go (oldPlanOf s) refl
   where
     go : (p : Plan) → oldPlanOf s ≡ p → migratedLengthOf s .length ≤ length s
     go (rows l) e = rw (length-is s l e) (old-plan s l e .no-longer)
-    go (refused n place) e = rw (refused-as s n place e .no-length) (omega arith)
+    go (refused n place) e = rw (no-length s n place e) (omega arith)
 
 pub migration-theorems : MigrationTheorems
 migration-theorems =
-    record { migrated = migrates-to; refused-as-read = refused-as; same-rows = same-rows; as-it-is = as-it-is; no-longer = no-longer }
+    record { migrated = migrates-to; refused-as-read = refused-as; same-rows = same-rows; as-it-is = as-it-is; place = place-in; no-longer = no-longer }

@@ -1,13 +1,12 @@
 -- Plans by the two rules: rows that the present rule reads the old one reads alike, and rows that the old rule reads may be written and take no more bytes.
 -- Both go by the rows one after another.
-use mathlib.Core.Path.{_≡_, refl, sym, ap, _∙_}
-use mathlib.Core.List.{List, [], _∷_, _++_}
+use mathlib.Core.Path.{_≡_, refl, ap}
+use mathlib.Core.List.{List, [], _∷_}
 use mathlib.Core.Bool.{Bool, true, false, cond}
 use Prim.Native.Nat.{ℕ, zero, suc, _+_, _-_, _≤_}
 use native.Mathlib.Omega.{arith}
-use lib.ListN.{length, drop, length-append, length-drop}
+use lib.ListN.{length, length-append, length-drop}
 use lib.Dec.{ltb, leb}
-use borrow.Author.Tests.{leb-true}
 use Rattle.answers.specs.Numbers.{inputTooLong}
 use Rattle.leb128.specs.Number.{Parsed, value, bad}
 use Rattle.leb128_write.specs.Written.{writtenNumber}

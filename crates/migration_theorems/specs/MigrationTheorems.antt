@@ -10,6 +10,7 @@ use Rattle.plan_read.specs.declared.Row.{Row}
 use Rattle.plan.specs.Answers.{summaryOf}
 use Rattle.plan_length.specs.declared.PlanWritten.{PlanWritten}
 use Rattle.plan_write.specs.RoundTrip.{ReadsAs}
+use Rattle.place_theorems.specs.PlaceTheorems.{PlaceIn}
 use Rattle.plan_migration.specs.Migration.{oldPlanOf, unread, migratedLengthOf, Migrates}
 
 -- migrating s into a buffer of as many bytes as were asked for first is accepted, and reads by the present rule as the rows l
@@ -38,5 +39,7 @@ pub record MigrationTheorems : Type 0 where
   -- a plan that keeps the present rule has the same rows by the old one, and is written as it is
   pub same-rows : (s : List ℕ) (l : List Row) → planOf s ≡ rows l → oldPlanOf s ≡ rows l
   pub as-it-is : (s : List ℕ) → Bytes s → summaryOf s .number ≡ done → StaysAsItIs s
-  -- and no plan becomes longer
+  -- a place is never past the plan's length, and is 0 unless the number is 9
+  pub place : (s : List ℕ) → PlaceIn s (migratedLengthOf s .number) (migratedLengthOf s .place)
+  -- no plan becomes longer
   pub no-longer : (s : List ℕ) → migratedLengthOf s .length ≤ length s

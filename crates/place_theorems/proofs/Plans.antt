@@ -11,11 +11,11 @@ use Rattle.answers.specs.Numbers.{inputTooLong, malformedPlan}
 use Rattle.answers.specs.Breaches.{noPlace}
 use Rattle.leb128.specs.Number.{Parsed, value, bad}
 use Rattle.plan_read.specs.Limits.{maxPlan, maxRows}
-use Rattle.plan_read.specs.Plan.{Plan, rows, refused, malformed, consRow, afterNumber, planNumber, row, rowsBy, rowsFrom, planIn, planBy, planOf, planAnswer}
+use Rattle.plan_read.specs.Plan.{Plan, rows, refused, malformed, consRow, afterNumber, planNumber, row, rowsBy, planInBy, planBy, planOf, planAnswer}
 use Rattle.plan_read.specs.declared.Row.{Row}
 use Rattle.plan.specs.Answers.{summary, summaryOf}
 use Rattle.place_theorems.specs.PlaceTheorems.{PlaceIn}
-use Rattle.place_theorems.proofs.Numbers.{Bounded, number-bounded, first-bounded}
+use Rattle.place_theorems.proofs.Numbers.{Bounded, number-bounded}
 
 -- a refused plan is too long, with no place, or malformed at a place that is not past the most
 abbrev pub RefusedAt : (most n place : ℕ) → Type 0
@@ -46,26 +46,33 @@ after-placed : (at most : ℕ) (p : Parsed) (go : ℕ → ℕ → List ℕ → P
 after-placed at most (value v next rest) go b u = wider (next + length rest) most (go v next rest) (b .1) (u v next rest)
 after-placed at most (bad place) go b u = malformed-placed most place (b .1)
 
-rows-placed : (n at : ℕ) (s : List ℕ) → Placed (at + length s) (rowsFrom n at s)
-unfolding rowsBy
-rows-placed zero at [] = tt
-rows-placed zero at (b ∷ s) = malformed-placed (at + length (b ∷ s)) at (omega arith)
-rows-placed (suc n) at s =
-    after-placed at (at + length s) (planNumber at s) (λ v next rest. consRow (row v at next) (rowsFrom n next rest)) (number-bounded at s)
-    (λ v next rest. cons-placed (next + length rest) (row v at next) (rowsFrom n next rest) (rows-placed n next rest))
-
 either : (most : ℕ) (t : Bool) (p q : Plan) → Placed most p → Placed most q → Placed most (cond t p q)
 either most true p q u w = u
 either most false p q u w = w
 
+-- whatever reads a number, if what it comes to does not lead past the end
+module _ (numberAt : ℕ → List ℕ → Parsed) (bounded : (at : ℕ) (s : List ℕ) → Bounded at (at + length s) (numberAt at s)) where
+  rows-placed : (n at : ℕ) (s : List ℕ) → Placed (at + length s) (rowsBy numberAt n at s)
+  unfolding rowsBy
+  rows-placed zero at [] = tt
+  rows-placed zero at (b ∷ s) = malformed-placed (at + length (b ∷ s)) at (omega arith)
+  rows-placed (suc n) at s =
+      after-placed at (at + length s) (numberAt at s) (λ v next rest. consRow (row v at next) (rowsBy numberAt n next rest)) (bounded at s)
+      (λ v next rest. cons-placed (next + length rest) (row v at next) (rowsBy numberAt n next rest) (rows-placed n next rest))
+
+  pub placed-by : (s : List ℕ) → Placed (length s) (planBy numberAt s)
+  unfolding planBy
+  placed-by s =
+      let z : 0 + length s ≡ length s = omega arith in
+      either (length s) (ltb maxPlan (length s)) (refused inputTooLong noPlace) (planInBy numberAt s) (inl (refl, refl))
+      (after-placed 0 (length s) (numberAt 0 s) (λ count next rest. cond (leb count maxRows) (rowsBy numberAt count next rest) (malformed 0))
+      (rw z at (bounded 0 s))
+      (λ count next rest.
+      either (next + length rest) (leb count maxRows) (rowsBy numberAt count next rest) (malformed 0) (rows-placed count next rest)
+      (malformed-placed (next + length rest) 0 (omega arith))))
+
 pub plan-placed : (s : List ℕ) → Placed (length s) (planOf s)
-unfolding planBy
-plan-placed s =
-    either (length s) (ltb maxPlan (length s)) (refused inputTooLong noPlace) (planIn s) (inl (refl, refl))
-    (after-placed 0 (length s) (planNumber 0 s) (λ count next rest. cond (leb count maxRows) (rowsFrom count next rest) (malformed 0)) (first-bounded s)
-    (λ count next rest.
-    either (next + length rest) (leb count maxRows) (rowsFrom count next rest) (malformed 0) (rows-placed count next rest)
-    (malformed-placed (next + length rest) 0 (omega arith))))
+plan-placed s = placed-by planNumber number-bounded s
 
 pub read-place : (s : List ℕ) → PlaceIn s (summaryOf s .number) (summaryOf s .place)
 unfolding summaryOf
