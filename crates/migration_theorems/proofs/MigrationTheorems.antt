@@ -36,7 +36,8 @@ module _ (s : List ℕ) (l : List Row) (e : oldPlanOf s ≡ rows l) where
       record {
         has-length = ap (λ (q : PlanLength). q .number) (length-is s l e);
         accepted = λ out after r m n.
-            let same : length out ≡ lengthOf (rowDestinations l) .length = n ∙ ap (λ (q : PlanLength). q .length) (length-is s l e ∙ sym (length-written s l e)) in
+            let same : length out ≡ lengthOf (rowDestinations l) .length =
+            n ∙ ap (λ (q : PlanLength). q .length) (length-is s l e ∙ sym (length-written s l e)) in
             number-is out after r m
             ∙ ap (writeRefusal (rowDestinations l)) same
             ∙ round-trip .length-accepted (rowDestinations l) (ap (λ (q : PlanLength). q .number) (length-written s l e));

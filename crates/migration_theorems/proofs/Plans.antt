@@ -114,7 +114,8 @@ plan-is s = long (ltb maxPlan (length s)) (planInBy oldNumber s) (go (oldNumber 
     go : (p : Parsed) → OldUsed 2 0 s p → Fewest 2 0 p
         → OldIs s (afterNumber p (λ count next rest. cond (leb count maxRows) (rowsBy oldNumber count next rest) (malformed 0)))
     go (value v next rest) u f =
-        most (leb v maxRows) v rest (rowsBy oldNumber v next rest) refl (number-shorter 0 s v next rest u f) (rows-readable v next rest) (rows-shorter v next rest)
+        most (leb v maxRows) v rest (rowsBy oldNumber v next rest) refl (number-shorter 0 s v next rest u f) (rows-readable v next rest)
+        (rows-shorter v next rest)
     go (bad place) u f = tt
 
 pub old-plan : (s : List ℕ) (l : List Row) → oldPlanOf s ≡ rows l → OldPlan s l

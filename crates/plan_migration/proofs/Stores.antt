@@ -71,7 +71,8 @@ pub record PlanParts (s : List ℕ) (n count next : ℕ) : Type 0 where
   pub small : count ≤ maxRows
   pub first-room : length (writtenNumber count) ≤ n
   pub rows-room : RowsRoom (rowsBy oldNumber count next (drop next s)) (length (writtenNumber count)) n
-  pub joined : writtenNumber count ++ writtenRows (destinationsIn (rowsBy oldNumber count next (drop next s))) ≡ writtenPlan (destinationsIn (planBy oldNumber s))
+  pub joined : writtenNumber count ++ writtenRows (destinationsIn (rowsBy oldNumber count next (drop next s)))
+      ≡ writtenPlan (destinationsIn (planBy oldNumber s))
   pub fills : length (writtenPlan (destinationsIn (planBy oldNumber s))) ≡ n
 
 module _ (s : List ℕ) (n : ℕ) (u : PlanRoom (planBy oldNumber s) n) (r : Number) (h : ReadsNumber (oldNumber 0 (drop 0 s)) r) where

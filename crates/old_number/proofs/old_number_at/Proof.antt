@@ -40,7 +40,8 @@ returns : tie.Need-returns
 returns c =
     let n = c .before .before in
     let a = start n .args in
-    old-value (a .at) (now (a .bytes)) (n .number-at .result) (n .number-at .ensures) (c .enum-told .given .0 .0) (c .enum-told .given .0 .1 .0) (c .enum-told .given .1)
+    let g = c .enum-told .given in
+    old-value (a .at) (now (a .bytes)) (n .number-at .result) (n .number-at .ensures) (g .0 .0) (g .0 .1 .0) (g .1)
 
 returns-2 : tie.Need-returns-2
 returns-2 c =

@@ -7,11 +7,13 @@ use borrow.Author.Needs.{needs}
 use borrow.Author.Tests.{le-leb, lt-leb}
 use denote.Ref.{now}
 use lib.ListN.{drop}
+use Rattle.leb128.specs.declared.Number.{Number}
 use Rattle.leb128.specs.declared.Number.the-variants.{Value}
 use Rattle.old_number.specs.OldNumber.{oldNumber}
 use Rattle.plan_read.specs.Limits.{maxRows}
 use Rattle.plan_read.specs.Plan.{rowsBy}
 use Rattle.plan_read.specs.Laws.Reading.{rowsAfter, whole-long, whole-after}
+use Rattle.plan_length.specs.declared.PlanLength.{PlanLength}
 use Rattle.plan_migration.specs.Migration.{migratedLength, migratedLengthOf}
 use Rattle.plan_migration.proofs.Rows.{first-rest, rows-readable, length-counted}
 use Rattle.plan_migration.proofs.migrated_length.Statement.{statement}
@@ -21,21 +23,20 @@ abbrev start : tie.After-old-number-at → tie.Start
 start n = n .before .before .before
 
 -- the length, by the first number
-after : (n : tie.After-old-number-at)
-    → let a = start n .args in rowsAfter oldNumber (now (a .plan)) migratedLength (n .old-number-at .result) ≡ migratedLengthOf (now (a .plan))
+abbrev length-after : tie.After-old-number-at → Number → PlanLength
+length-after n r = rowsAfter oldNumber (now (start n .args .plan)) migratedLength r
+
+after : (n : tie.After-old-number-at) → length-after n (n .old-number-at .result) ≡ migratedLengthOf (now (start n .args .plan))
 unfolding migratedLengthOf
 after n =
     let a = start n .args in
-    ap (rowsAfter oldNumber (now (a .plan)) migratedLength) (n .old-number-at .ensures .answer)
+    ap (length-after n) (n .old-number-at .ensures .answer)
     ∙ whole-after oldNumber (now (a .plan)) migratedLength (first-rest (now (a .plan))) (n .before .if1 .left)
 
 -- where there is one
-known : (c : tie.After-value) → let a = start (c .before .before) .args in
-    rowsAfter oldNumber (now (a .plan)) migratedLength (Value (c .value .given .0 .0) (c .value .given .0 .1 .0)) ≡ migratedLengthOf (now (a .plan))
-known c =
-    let n = c .before .before in
-    let a = start n .args in
-    sym (ap (rowsAfter oldNumber (now (a .plan)) migratedLength) (c .value .given .1)) ∙ after n
+known : (c : tie.After-value) → let n = c .before .before in
+    length-after n (Value (c .value .given .0 .0) (c .value .given .0 .1 .0)) ≡ migratedLengthOf (now (start n .args .plan))
+known c = let n = c .before .before in sym (ap (length-after n) (c .value .given .1)) ∙ after n
 
 unread-requires : tie.Need-unread-requires
 unread-requires c κs = search needs
@@ -83,8 +84,7 @@ returns-4 : tie.Need-returns-4
 returns-4 c =
     let m = c .before .before in
     let n = m .before .before in
-    let a = start n .args in
-    c .unread3 .ensures ∙ sym (ap (rowsAfter oldNumber (now (a .plan)) migratedLength) (m .place .given .1)) ∙ after n
+    c .unread3 .ensures ∙ sym (ap (length-after n) (m .place .given .1)) ∙ after n
 
 pub migrated-length-spec : {M : Type 1} → statement M
 migrated-length-spec =

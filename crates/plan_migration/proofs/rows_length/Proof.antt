@@ -104,7 +104,8 @@ returns c =
     let place = w .place .given .0 .0 in
     c .unread .ensures
     ∙ sym (ap (lengthWith (t .loop .length)) (rows-bad oldNumber (now (a .plan)) (t .loop .i) (a .count) (t .loop .at) place (r .before .loop-test .taken)
-    (bad-known (oldNumber (t .loop .at) (drop (t .loop .at) (now (a .plan)))) (r .old-number-at .result) place (r .old-number-at .ensures) (w .place .given .1))))
+    (bad-known (oldNumber (t .loop .at) (drop (t .loop .at) (now (a .plan)))) (r .old-number-at .result) place (r .old-number-at .ensures)
+    (w .place .given .1))))
     ∙ t .loop .inv .1 .1
 
 unread-requires-2 : tie.Need-unread-requires-2 Inv-loop μ-loop

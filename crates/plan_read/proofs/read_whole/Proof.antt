@@ -7,6 +7,7 @@ use native.Mathlib.Omega.{arith}
 use denote.Ref.{now}
 use borrow.Author.Tests.{le-leb, lt-leb}
 use Rattle.leb128.specs.Laws.Reading.{groups-rest}
+use Rattle.leb128.specs.declared.Number.{Number}
 use Rattle.leb128.specs.declared.Number.the-variants.{Value}
 use Rattle.plan_read.specs.Limits.{maxRows}
 use Rattle.plan_read.specs.Plan.{Plan, rows, refused, planNumber, planOf, planAnswer}
@@ -29,19 +30,19 @@ abbrev start : tie.After-number-at → tie.Start
 start n = n .before .before .before
 
 -- what the plan is after its first number
-after : (n : tie.After-number-at)
-    → let a = start n .args in rowsAfter planNumber (now (a .plan)) (planAnswer (a .chute)) (n .number-at .result) ≡ planAnswer (a .chute) (planOf (now (a .plan)))
+abbrev rows-after : tie.After-number-at → Number → PlanRead
+rows-after n r = rowsAfter planNumber (now (start n .args .plan)) (planAnswer (start n .args .chute)) r
+
+after : (n : tie.After-number-at) → let a = start n .args in rows-after n (n .number-at .result) ≡ planAnswer (a .chute) (planOf (now (a .plan)))
 after n =
     let a = start n .args in
-    ap (rowsAfter planNumber (now (a .plan)) (planAnswer (a .chute))) (n .number-at .ensures .answer) ∙ whole-after planNumber (now (a .plan)) (planAnswer (a .chute)) (groups-rest true 2 0 (now (a .plan))) (n .before .if1 .left)
+    ap (rows-after n) (n .number-at .ensures .answer)
+    ∙ whole-after planNumber (now (a .plan)) (planAnswer (a .chute)) (groups-rest true 2 0 (now (a .plan))) (n .before .if1 .left)
 
 -- where there is one
-known : (c : tie.After-value) → let a = start (c .before .before) .args in
-    rowsAfter planNumber (now (a .plan)) (planAnswer (a .chute)) (Value (c .value .given .0 .0) (c .value .given .0 .1 .0)) ≡ planAnswer (a .chute) (planOf (now (a .plan)))
-known c =
-    let n = c .before .before in
-    let a = start n .args in
-    sym (ap (rowsAfter planNumber (now (a .plan)) (planAnswer (a .chute))) (c .value .given .1)) ∙ after n
+known : (c : tie.After-value) → let n = c .before .before in let a = start n .args in
+    rows-after n (Value (c .value .given .0 .0) (c .value .given .0 .1 .0)) ≡ planAnswer (a .chute) (planOf (now (a .plan)))
+known c = let n = c .before .before in sym (ap (rows-after n) (c .value .given .1)) ∙ after n
 
 returns : tie.Need-returns
 returns c = answers-as _ _ _ (sym (whole-long planNumber _ (planAnswer _) (c .if1 .taken)))
@@ -80,8 +81,7 @@ returns-4 : tie.Need-returns-4
 returns-4 c =
     let m = c .before .before in
     let n = m .before .before in
-    let a = start n .args in
-    answers-as _ _ _ (c .malformed2 .ensures ∙ sym (ap (rowsAfter planNumber (now (a .plan)) (planAnswer (a .chute))) (m .place .given .1)) ∙ after n)
+    answers-as _ _ _ (c .malformed2 .ensures ∙ sym (ap (rows-after n) (m .place .given .1)) ∙ after n)
 
 pub read-whole-spec : {M : Type 1} → statement M
 read-whole-spec =

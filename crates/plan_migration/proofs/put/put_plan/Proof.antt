@@ -47,7 +47,8 @@ count-written w =
     let v = w .before .before .before .value .given .0 .0 in
     let p = parts w in
     let small : w .before .before .before .value .given .0 .0 ≤ maxNumber = omega (arith, p .small) in
-    let room : 0 + length (writtenNumber (w .before .before .before .value .given .0 .0)) ≤ length (now (start (read w) .args .out)) = omega (arith, p .first-room) in
+    let room : 0 + length (writtenNumber (w .before .before .before .value .given .0 .0)) ≤ length (now (start (read w) .args .out)) =
+    omega (arith, p .first-room) in
     let past = w .write-number .ensures .0 ∙ past-written 0 v small out room in
     record { place = omega (arith, past); stores = w .write-number .ensures .1 ∙ is-written 0 v small out room }
 

@@ -77,7 +77,8 @@ returns c =
     let a = start t .args in
     let place = c .enum-told .given .0 .0 in
     let none = rows-bad oldNumber (now (a .plan)) (t .loop .i) (a .count) (t .loop .at) place (r .before .loop-test .taken)
-    (bad-known (oldNumber (t .loop .at) (drop (t .loop .at) (now (a .plan)))) (r .old-number-at .result) place (r .old-number-at .ensures) (c .enum-told .given .1)) in
+    (bad-known (oldNumber (t .loop .at) (drop (t .loop .at) (now (a .plan)))) (r .old-number-at .result) place (r .old-number-at .ensures)
+    (c .enum-told .given .1)) in
     absurd (subst (λ (p : Plan). RowsRoom p (t .loop .to) (length (t .loop .out))) none (t .loop .inv .1 .0))
 
 write-number-requires : tie.Need-write-number-requires Inv-loop μ-loop
@@ -107,7 +108,8 @@ loop-again c =
       (
         rw (past, w .write-number .kept .0) (f .others),
         (
-          stored-next (l .out) (w .write-number .last .0) (l .to) (w .write-number .result) (writtenNumber v) (writtenRows (destinationsIn others)) stored past ∙ sym (f .stored)
+          stored-next (l .out) (w .write-number .last .0) (l .to) (w .write-number .result) (writtenNumber v) (writtenRows (destinationsIn others)) stored past
+              ∙ sym (f .stored)
               ∙ sym (ap (λ (p : Plan). sets (l .out) (l .to) (writtenRows (destinationsIn p))) (rows-next w)) ∙ l .inv .1 .1 .0,
           w .write-number .kept .0 ∙ l .inv .1 .1 .1,
         ),
@@ -121,8 +123,9 @@ returns-2 : tie.Need-returns-2 Inv-loop μ-loop
 returns-2 c =
     let t = c .before in
     let a = start t .args in
-    let none = none-left (t .loop .i) (a .count) (t .loop .at) (t .loop .to) (length (t .loop .out)) (now (a .plan)) (c .loop-test .left) (t .loop .inv .1 .0) in
-    sym (ap (sets (t .loop .out) (t .loop .to)) none) ∙ t .loop .inv .1 .1 .0
+    let l = t .loop in
+    let none = none-left (l .i) (a .count) (l .at) (l .to) (length (l .out)) (now (a .plan)) (c .loop-test .left) (l .inv .1 .0) in
+    sym (ap (sets (l .out) (l .to)) none) ∙ l .inv .1 .1 .0
 
 pub put-rows-spec : {M : Type 1} → statement M
 put-rows-spec =
