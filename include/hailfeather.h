@@ -216,7 +216,7 @@ hf_kmac_draw hf_kmac_generator_draw(hf_kmac_generator generator, const uint8_t *
  * whose last group is empty, is malformed; a single 00 is 0. So two good plans with equal rows are equal bytes. Chutes count from 1; destination 0 sends the
  * parcel round again. The plan 03 07 AC 02 00 has three rows, with destinations 7, 300 and 0. Every function reads its plan whole, so a plan that is bad
  * anywhere is refused whichever chute is asked for; the one exception is hf_plan_step, which relies on hf_plan_start. hf_plan_migrate writes an old copy, in
- * which numbers may have empty groups, as such a plan.
+ * which numbers may have more groups than they need, as such a plan.
  *
  * Places. Every answer on plans, flat or of halls, has a place: with the number 9 for a malformed plan the byte, from 0, of the first breach in reading order,
  * each number being judged once it is read; else 0. The place is

@@ -1,4 +1,4 @@
-"""docs/RULES.md, "Chute plan" and "Places": a chute plan by the old rule, under which a number may have more groups than it needs, written by the new one.
+"""docs/RULES.md, "Migration": a chute plan read by the old rule, under which a number may have more groups than it needs, and written by the present one.
 
 As a program it reads a plan on standard input and writes the migrated plan, or nothing if it is refused.
 """
@@ -23,7 +23,7 @@ def reading(plan):
 
 
 def migrated(rows):
-    """The plan with these rows by the new rule."""
+    """The plan with these rows by the present rule."""
     return bytes_of([row.destination for row in rows])
 
 

@@ -96,7 +96,7 @@ class Cases:
         self.out(text)
 
     def migrated(self, data):
-        """A plan by the old rule, written by the new one into buffers of the length it takes, one byte more, one less, and its own length, if there is room."""
+        """A plan by the old rule, written by the present one into buffers of the length it takes, one byte more, one less, and its own length, if there is room."""
         self.put(b"m", data)
         number, needed, place = migration.migrated_length(data)
         text = ANSWER % (number, needed, place)

@@ -134,7 +134,7 @@ def padded():
 
 
 def migrated():
-    """Plans by the old rule: what they are by the new one, and what is refused."""
+    """Plans by the old rule: what they are by the present one, and what is refused."""
     good = {
         "838000" "878000" "AC8200" "808000": PLAN, "8300" "8700" "AC02" "8000": PLAN, "0307AC0200": PLAN, "808000": b"\x00", "01FFFF7F": b"\x01\xff\xff\x7f",
     }

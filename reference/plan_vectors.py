@@ -13,7 +13,7 @@ EMPTY_LAST = re.compile(rb"[\x80-\xff]\x00")  # in a plan that the old rule acce
 
 
 def migrated(lent):
-    """A plan that the old rule accepts, by the new rule; every other as it is."""
+    """A plan that the old rule accepts, by the present rule; every other as it is."""
     return migration.migrate(lent, migration.migrated_length(lent)[1])[1] or lent
 
 
@@ -46,7 +46,7 @@ def check_plan(case):
 
 
 def first_malformed(case, lent):
-    """(which, place) of the first of two plans that the new rule refuses with 9, where one is padded."""
+    """(which, place) of the first of two plans that the present rule refuses with 9, where one is padded."""
     places = {which: migration.migrated_length(content)[2] for which, content in lent.items() if migration.reading(content).breach} | padded(case)
     return next((which, places[which]) for which in lent if which in places)
 

@@ -92,8 +92,8 @@ def write(destinations: Iterable[int]) -> bytes:
 
 
 def migrate(plan: BytesLike) -> bytes:
-    """The plan by today's rule with the rows that a plan has by the old one, by which a number may stand in more groups than it needs. A plan that keeps
-    today's rule stays as it is. Refuses with 5, and with 9 where the plan is malformed by the old rule too.
+    """The plan by the present rule with the rows that a plan has by the old one, by which a number may stand in more groups than it needs. A plan that keeps
+    the present rule stays as it is. Refuses with 5, and with 9 where the plan is malformed by the old rule too.
 
     >>> migrate(bytes([3, 135, 0, 172, 2, 128, 128, 0])).hex(" ")
     '03 07 ac 02 00'

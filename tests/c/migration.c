@@ -10,7 +10,7 @@ static bool length_is(hf_length l, size_t length, size_t place, uint8_t number) 
 
 static bool written_is(hf_written w, size_t place, uint8_t number) { return w.place == place && w.number == number; }
 
-/* A plan that becomes this one, in a buffer of its length alone. The first is malformed by today's rule, unless it is the second. */
+/* A plan that becomes this one, in a buffer of its length alone. The first is malformed by the present rule, unless it is the second. */
 static void becomes(const uint8_t *old, size_t length, const uint8_t *plan, size_t plan_length) {
     lent out;
     bool same = length == plan_length && memcmp(old, plan, length) == 0;
@@ -27,7 +27,7 @@ static void migrated(const uint8_t *old, size_t length, const uint8_t *plan, siz
     becomes(plan, plan_length, plan, plan_length);
 }
 
-/* A plan that is refused with this place and number, whatever is lent: as long as it is itself, as its good part would be, and none. */
+/* A plan that is refused with this place and number, whatever is lent: nothing, a few bytes, and more than any plan takes. */
 static void refused(const uint8_t *plan, size_t length, size_t place, uint8_t number) {
     lent out;
     EXPECT(length_is(hf_plan_migrated_length(plan, length), 0, place, number));

@@ -13,8 +13,8 @@ fails 64 'every user of the machine' draw --seed-hex=00 --length 1
 # usage errors name what is wrong and point to the help of the command
 fails 64 'a command is missing'
 fails 64 'no command polish' polish
-fails 64 'report, lookup or write' plan
-fails 64 'report, lookup or write' plan polish
+fails 64 'report, lookup, write or migrate' plan
+fails 64 'report, lookup, write or migrate' plan polish
 fails 64 'plan has to be followed by report, lookup, write or migrate' plan
 fails 64 'plan has to be followed by report, lookup, write or migrate' plan polish
 fails 64 'hall has to be followed by report, lookup or write' hall

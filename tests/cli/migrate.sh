@@ -10,8 +10,8 @@ gives plan plan migrate -- old
 makes made plan plan migrate old -o made
 makes made plan plan migrate --output=made <old
 makes made plan plan migrate made -o made
-cp old place
-makes place plan plan migrate place -o place
+cp old replaced
+makes replaced plan plan migrate replaced -o replaced
 
 # the reference's migrated plan, which is good and stays as it is; or refused with the reference's number and place
 cat >migration_cases.py <<'PYTHON'

@@ -28,7 +28,7 @@ placeOf (unknownKind place) = place
 placeOf (levelTooDeep place) = place
 placeOf (tooManyChutes place) = place
 
--- the place where nothing that was read is malformed: of an acceptance, of another refusal, and of refusal 9 for what is to be written or for lists of a wrong
--- length
+-- the place where nothing that was read is malformed: of an acceptance, of another refusal, and of refusal 9 for what is to be written, or for lists or a
+-- buffer of a wrong length
 abbrev pub noPlace : ℕ
 noPlace = 0

@@ -6,6 +6,7 @@ use mathlib.Core.Bool.{cond}
 use lib.Dec.{ltb}
 use lib.ListN.{length}
 use Rattle.answers.specs.Numbers.{inputTooLong}
+use Rattle.answers.specs.Breaches.{noPlace}
 use Rattle.plan_read.specs.Limits.{maxPlan}
 use Rattle.plan_length.specs.Length.{lengthIs, refusedLength, noLength}
 use Rattle.plan_length.specs.declared.PlanLength.{PlanLength}
@@ -13,7 +14,7 @@ use Rattle.hall_check.specs.Lists.{pairs, listsAllowed}
 use Rattle.hall_length.specs.Written.{writtenHalls}
 
 abbrev pub tooLong : PlanLength
-tooLong = refusedLength inputTooLong
+tooLong = refusedLength inputTooLong noPlace
 
 -- a length of n bytes, where a plan may have as many
 abbrev pub lengthWithin : ℕ → PlanLength

@@ -40,7 +40,6 @@ hall-examples =
       empty-halls = refl;
       no-bytes = refl;
       kind-2 = refl;
-      kind-in-three-groups = refl;
       bytes-after = refl;
       more-promised = refl;
       level-8 = refl;

@@ -47,7 +47,6 @@ pub record HallExamples : Type 0 where
   pub empty-halls : hallSummaryOf (0x01 ∷ 0x01 ∷ 0x02 ∷ 0x01 ∷ 0x00 ∷ 0x01 ∷ 0x00 ∷ []) ≡ acceptedSummary 1 3 0
   pub no-bytes : hallSummaryOf [] ≡ refusedSummary malformedPlan 0
   pub kind-2 : hallSummaryOf (0x01 ∷ 0x02 ∷ 0x00 ∷ []) ≡ refusedSummary malformedPlan 1
-  pub kind-in-three-groups : hallSummaryOf (0x01 ∷ 0x81 ∷ 0x80 ∷ 0x00 ∷ 0x00 ∷ []) ≡ refusedSummary malformedPlan 3
   pub bytes-after : hallSummaryOf (0x01 ∷ 0x00 ∷ 0x07 ∷ 0x00 ∷ []) ≡ refusedSummary malformedPlan 3
   pub more-promised : hallSummaryOf (0xFF ∷ 0xFF ∷ 0x7F ∷ 0x00 ∷ 0x07 ∷ []) ≡ refusedSummary malformedPlan 5
   pub level-8 : hallSummaryOf eightLevels ≡ acceptedSummary 1 7 0

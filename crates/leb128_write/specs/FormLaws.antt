@@ -1,4 +1,4 @@
--- Laws of the one form of a number: bytes that read as it are its groups as they are written, since after the first group none makes 0 of those that follow.
+-- Laws of the one form of a number: bytes that read as it are its groups as they are written, since what the groups after a first one make is never 0.
 use mathlib.Core.Path.{_≡_, refl, ap}
 use mathlib.Core.List.{List, [], _∷_, _++_}
 use mathlib.Core.Bool.{Bool, true, false, cond, _||_}

@@ -5,8 +5,8 @@ use Prim.Native.Nat.{ℕ}
 use lib.ListN.{length}
 use Rattle.plan_read.specs.Plan.{rows, refused, rowDestinations}
 use Rattle.plan_read.specs.declared.Row.{Row}
-use Rattle.plan_length.specs.Length.{writtenPlan, lengthIs, lengthOf}
-use Rattle.plan_migration.specs.Migration.{oldPlanOf, unread, migratedLength, migratedLengthOf}
+use Rattle.plan_length.specs.Length.{writtenPlan, lengthIs, refusedLength, lengthOf}
+use Rattle.plan_migration.specs.Migration.{oldPlanOf, migratedLength, migratedLengthOf}
 use Rattle.migration_theorems.proofs.Plans.{old-plan}
 
 module _ (s : List ℕ) (l : List Row) (e : oldPlanOf s ≡ rows l) where
@@ -18,6 +18,6 @@ module _ (s : List ℕ) (l : List Row) (e : oldPlanOf s ≡ rows l) where
   unfolding migratedLengthOf
   length-is = rw e length-written
 
-pub no-length : (s : List ℕ) (n place : ℕ) → oldPlanOf s ≡ refused n place → migratedLengthOf s ≡ unread n place
+pub no-length : (s : List ℕ) (n place : ℕ) → oldPlanOf s ≡ refused n place → migratedLengthOf s ≡ refusedLength n place
 unfolding migratedLengthOf
 no-length s n place e = ap migratedLength e

@@ -20,7 +20,7 @@ use Rattle.plan_migration.specs.Migration.{oldPlanOf, migratedLengthOf, migrate
 use Rattle.migration_theorems.specs.MigrationTheorems.{MigratesTo, StaysAsItIs, RefusedAs, MigrationTheorems}
 use Rattle.migration_theorems.proofs.Plans.{same-rows, old-plan}
 use Rattle.migration_theorems.proofs.Lengths.{length-written, length-is, no-length}
-use Rattle.migration_theorems.proofs.Places.{place-in}
+use Rattle.migration_theorems.proofs.Places.{length-place, migrate-place}
 
 -- a plan that the old rule reads
 module _ (s : List ℕ) (l : List Row) (e : oldPlanOf s ≡ rows l) where
@@ -72,4 +72,12 @@ no-longer s = go (oldPlanOf s) refl
 
 pub migration-theorems : MigrationTheorems
 migration-theorems =
-    record { migrated = migrates-to; refused-as-read = refused-as; same-rows = same-rows; as-it-is = as-it-is; place = place-in; no-longer = no-longer }
+    record {
+      migrated = migrates-to;
+      refused-as-read = refused-as;
+      same-rows = same-rows;
+      as-it-is = as-it-is;
+      length-place = length-place;
+      place = migrate-place;
+      no-longer = no-longer;
+    }

@@ -38,7 +38,7 @@ pub record PlaceExamples : Type 0 where
   pub seven-in-three : summaryOf (0x01 ∷ 0x87 ∷ 0x80 ∷ 0x00 ∷ []) ≡ badAt 3
   pub seven-in-one : summaryOf (0x01 ∷ 0x07 ∷ []) ≡ good 1
   pub middle-group-of-0 : summaryOf (0x01 ∷ 0x87 ∷ 0x80 ∷ 0x01 ∷ []) ≡ good 1
-  -- the number of rows is: 0, 3, and 4,097, which is judged by its groups before its value; and an empty group before the rows' own breaches
+  -- the number of rows is in more groups than it needs: 0, 3, and 4,097, whose groups are judged before its value; a row is, and the next is cut
   pub no-rows-in-two : summaryOf (0x80 ∷ 0x00 ∷ []) ≡ badAt 1
   pub three-rows-in-two : summaryOf (0x83 ∷ 0x00 ∷ 0x07 ∷ 0x07 ∷ 0x07 ∷ []) ≡ badAt 1
   pub too-many-in-three : summaryOf (0x81 ∷ 0xA0 ∷ 0x00 ∷ []) ≡ badAt 2

@@ -80,7 +80,7 @@ pub record PairPlaces (site house : List ℕ) (a : RowLocation) : Type 0 where
   pub neither : (a .number ≡ malformedPlan → ⊥) → (a .malformed ≡ Neither) × (a .place ≡ noPlace)
   pub within : a .place ≤ length (namedPlan (a .malformed) site house)
 
--- Every answer on one plan tells the place that reading it tells; what is written has none.
+-- Every answer on one plan tells the place that reading it tells; what is written has none. (Migration reads by another rule: migration_theorems.)
 pub record OnePlace : Type 0 where
   pub row : (s : List ℕ) (chute : ℕ) → chuteRowOf s chute .place ≡ summaryOf s .place
   pub lookup : (s : List ℕ) (chute : ℕ) → lookupOf s chute .place ≡ summaryOf s .place
@@ -95,7 +95,7 @@ pub record OnePlace : Type 0 where
   pub write : (l out after : List ℕ) (r : PlanWritten) → WritesPlan l out after r → r .place ≡ noPlace
   pub hall-write : (outer : ℕ) (kinds values out after : List ℕ) (r : PlanWritten) → WritesHalls outer kinds values out after r → r .place ≡ noPlace
 
--- Without its place every answer is what reading finds makes it: the answer as it was before it told one.
+-- Without its place every answer is what reading the plan whole finds makes it: the place changes no other field.
 pub record WithoutPlaces : Type 0 where
   pub read : (s : List ℕ) → summaryWithout (summaryOf s) ≡ summaryBy (planOf s)
   pub row : (s : List ℕ) (chute : ℕ) → rowWithout (chuteRowOf s chute) ≡ rowBy chute (planOf s)

@@ -1,5 +1,4 @@
--- The answers on plans without their place: the number, then the other fields. And what they are by what reading a plan whole finds, its place left out, which
--- is what they were before they told places (docs/changes/04-say-where-the-plan-is-bad.md).
+-- The answers on plans without their place: the number, then the other fields. And what they are by what reading a plan whole finds, its place left out.
 use Prim.Native.Nat.{ℕ, zero, suc, _-_}
 use mathlib.Core.List.{List}
 use mathlib.Core.Bool.{cond}

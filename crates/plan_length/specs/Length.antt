@@ -28,15 +28,15 @@ rowsAllowed (v ∷ l) = leb v maxDestination && rowsAllowed l
 unfoldable pub allowed : List ℕ → Bool
 allowed l = leb (length l) maxRows && rowsAllowed l
 
--- the length of a plan: 0 and the length, or the refusal n and 0; nothing is read, so that there is no place
+-- the length of a plan: 0 and the length, or the refusal n and its place, which is none where no plan is read
 abbrev pub lengthIs : ℕ → PlanLength
 lengthIs n = record { number = done; length = n; place = noPlace }
 
-abbrev pub refusedLength : ℕ → PlanLength
-refusedLength n = record { number = n; length = 0; place = noPlace }
+abbrev pub refusedLength : ℕ → ℕ → PlanLength
+refusedLength n place = record { number = n; length = 0; place = place }
 
 abbrev pub noLength : PlanLength
-noLength = refusedLength malformedPlan
+noLength = refusedLength malformedPlan noPlace
 
 unfoldable pub lengthOf : List ℕ → PlanLength
 lengthOf l = cond (allowed l) (lengthIs (length (writtenPlan l))) noLength

@@ -2,7 +2,7 @@
 ghost use mathlib.Core.Path.{_≡_};
 ghost use Rattle.plan_length.specs.Length.{noLength, lengthOf, writeAnswer};
 
-// How many bytes a plan takes: 0 and the length, or the refusal's number. Nothing is read, so that the place is that of no breach.
+// How many bytes a plan takes: 0 and the length, or the refusal's number. The place is that of no breach, but where a plan to be migrated is malformed.
 #[repr(C)]
 pub struct PlanLength {
     pub length: usize,
@@ -10,7 +10,7 @@ pub struct PlanLength {
     pub number: u8,
 }
 
-// The answer of writing a plan, flat or of halls: 0, or the refusal's number; and the place of no breach.
+// The answer of writing a plan, flat or of halls: 0, or the refusal's number. The place is that of no breach, but where a plan to be migrated is malformed.
 #[repr(C)]
 pub struct PlanWritten {
     pub place: usize,

@@ -6,7 +6,7 @@ use mathlib.Core.List.{List}
 use lib.ListN.{length}
 use Rattle.old_number.specs.OldNumber.{oldNumber}
 use Rattle.plan_read.specs.Plan.{Plan, rows, refused, planBy, rowDestinations}
-use Rattle.plan_length.specs.Length.{lengthOf, writeAnswer}
+use Rattle.plan_length.specs.Length.{refusedLength, lengthOf, writeAnswer}
 use Rattle.plan_length.specs.declared.PlanLength.{PlanLength}
 use Rattle.plan_length.specs.declared.PlanWritten.{PlanWritten}
 use Rattle.plan_write.specs.Write.{writeRefusal, writtenOf}
@@ -16,12 +16,9 @@ abbrev pub oldPlanOf : List ℕ → Plan
 oldPlanOf s = planBy oldNumber s
 
 -- how long the migrated plan is: as long as the plan of its rows; or the refusal n, with its place
-abbrev pub unread : ℕ → ℕ → PlanLength
-unread n place = record { number = n; length = 0; place = place }
-
 abbrev pub migratedLength : Plan → PlanLength
 migratedLength (rows l) = lengthOf (rowDestinations l)
-migratedLength (refused n place) = unread n place
+migratedLength (refused n place) = refusedLength n place
 
 unfoldable pub migratedLengthOf : List ℕ → PlanLength
 migratedLengthOf s = migratedLength (oldPlanOf s)

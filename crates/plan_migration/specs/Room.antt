@@ -5,14 +5,13 @@ use mathlib.Core.List.{List, []}
 use mathlib.Core.Bool.{true}
 use lib.ListN.{length}
 use Rattle.plan_read.specs.Plan.{Plan, rows, refused, rowDestinations}
-use Rattle.plan_length.specs.Length.{writtenRows, writtenPlan, rowsAllowed, allowed, lengthIs}
+use Rattle.plan_length.specs.Length.{writtenRows, writtenPlan, rowsAllowed, allowed, lengthIs, refusedLength}
 use Rattle.plan_length.specs.declared.PlanLength.{PlanLength}
-use Rattle.plan_migration.specs.Migration.{unread}
 
 -- n bytes, and those of rows that are still to be read
 abbrev pub lengthWith : ℕ → Plan → PlanLength
 lengthWith n (rows l) = lengthIs (n + length (writtenRows (rowDestinations l)))
-lengthWith n (refused k place) = unread k place
+lengthWith n (refused k place) = refusedLength k place
 
 -- rows that were read are allowed, and fit n bytes from the place `to` on
 pub record RowsFit (l : List ℕ) (to n : ℕ) : Type 0 where

@@ -7,19 +7,31 @@ mod put; // put.rt: the stores, once it is known that there is room
 
 ghost use mathlib.Core.Path.{_≡_};
 ghost use lib.ListN.{drop};
+ghost use Rattle.leb128.specs.Answers.{numberValues};
 ghost use Rattle.leb128_write.specs.Answers.{numberLength};
 ghost use Rattle.plan_read.specs.Plan.{rowsBy};
 ghost use Rattle.old_number.specs.OldNumber.{oldNumber};
-ghost use Rattle.plan_migration.specs.Migration.{unread, migratedLengthOf, Migrates};
+ghost use Rattle.plan_length.specs.Length.{refusedLength};
+ghost use Rattle.plan_migration.specs.Migration.{migratedLengthOf, Migrates};
 ghost use Rattle.plan_migration.specs.Room.{lengthWith};
 
-fn unread(number: u8, place: usize) -> PlanLength
-    ensures { λ r. ⌜ r ≡ unread number place ⌝ }
+fn refused_length(number: u8, place: usize) -> PlanLength
+    ensures { λ r. ⌜ r ≡ refusedLength number place ⌝ }
 {
     PlanLength {
         number,
         length: 0,
         place,
+    }
+}
+
+// The place at which reading a number failed, 0 for a number.
+fn failed_at(read: Number) -> usize
+    ensures { λ r. ⌜ r ≡ numberValues read .place ⌝ }
+{
+    match read {
+        Number::Value { value: _, next: _ } => 0,
+        Number::Bad(place) => place,
     }
 }
 
@@ -31,19 +43,16 @@ fn rows_length(plan: &[u8], first: usize, count: u32) -> PlanLength
     let mut at = first;
     let mut i: u32 = 0;
     while i < count {
-        match old_number::old_number_at(plan, at) {
-            Number::Value { value, next } => {
-                length += leb128_write::number_length(value);
-                at = next;
-                i += 1;
-            }
-            Number::Bad(place) => {
-                return unread(answers::MALFORMED_PLAN, place);
-            }
-        }
+        let read = old_number::old_number_at(plan, at);
+        let Number::Value { value, next } = read else {
+            return refused_length(answers::MALFORMED_PLAN, failed_at(read));
+        };
+        length += leb128_write::number_length(value);
+        at = next;
+        i += 1;
     }
     if at < plan.len() {
-        return unread(answers::MALFORMED_PLAN, at); // the first byte after the last row
+        return refused_length(answers::MALFORMED_PLAN, at); // the first byte after the last row
     }
     PlanLength {
         number: answers::DONE,
@@ -52,21 +61,21 @@ fn rows_length(plan: &[u8], first: usize, count: u32) -> PlanLength
     }
 }
 
-// How many bytes the migrated plan takes: never more than the plan has. A caller who migrates it lends a buffer of exactly this length.
+// How many bytes the migrated plan takes, which are never more than the plan has. A caller who migrates it lends a buffer of exactly this length.
 pub fn migrated_length(plan: &[u8]) -> PlanLength
     ensures { λ r. ⌜ r ≡ migratedLengthOf (now (plan .entry)) ⌝ }
 {
     if plan_read::MAX_PLAN < plan.len() {
-        return unread(answers::INPUT_TOO_LONG, answers::NO_PLACE);
+        return refused_length(answers::INPUT_TOO_LONG, answers::NO_PLACE);
     }
     match old_number::old_number_at(plan, 0) {
         Number::Value { value, next } => {
             if plan_read::MAX_ROWS < value {
-                return unread(answers::MALFORMED_PLAN, 0); // the place of a plan with too many rows
+                return refused_length(answers::MALFORMED_PLAN, 0); // the place of a plan with too many rows
             }
             rows_length(plan, next, value)
         }
-        Number::Bad(place) => unread(answers::MALFORMED_PLAN, place),
+        Number::Bad(place) => refused_length(answers::MALFORMED_PLAN, place),
     }
 }
 

@@ -94,7 +94,7 @@ pub const MIGRATE: Command = Command {
     operands: &["PLAN"],
     options: &[output("PLAN", "the new plan; standard output if it is left out")],
     notes: "A number stands in the fewest groups of seven bits: 7 is 07, and 87 00, whose last group is empty, is malformed.
-By the old rule both are 7. PLAN is read by the old rule, and the same rows are written by the new one; a plan that keeps the new rule is
+By the old rule both are 7. PLAN is read by the old rule, and the same rows are written by the present one; a plan that keeps the present rule is
 written as it is. Two plans with equal rows are then equal bytes. Hall plans are not migrated. A plan that is malformed by the old rule too
 is refused with the byte, from 0, at which it is malformed, and nothing is written.",
     examples: "printf '\\003\\207\\000\\254\\002\\200\\200\\000' > old.plan

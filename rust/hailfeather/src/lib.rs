@@ -18,7 +18,7 @@
 //! | make many secret bytes of a seed | [`Generator`] | each piece of 208 bytes makes a new key, and the old one is gone |
 //! | the same where a policy names KMAC | [`KmacGenerator`] | it is made of KMACXOF256; a piece takes 4 permutation runs, and the other's 3 |
 //! | read, write or ask chute plans | [`plan`] | a plan that is bad anywhere is refused whole |
-//! | bring an old copy of a chute plan under today's rule | [`plan::migrate`] | it reads numbers with empty groups, which everything else refuses |
+//! | bring an old copy of a chute plan under the present rule | [`plan::migrate`] | it reads numbers in more groups than they need, which everything else refuses |
 //! | read, write or ask plans by hall and line | [`hall`] | chutes stand in halls, which stand in halls, and count through all of them |
 //!
 //! [`keccak_p`] is the permutation below all of them; hardly anyone needs it alone.

@@ -38,12 +38,12 @@ known : (c : tie.After-value) → let n = c .before .before in
     length-after n (Value (c .value .given .0 .0) (c .value .given .0 .1 .0)) ≡ migratedLengthOf (now (start n .args .plan))
 known c = let n = c .before .before in sym (ap (length-after n) (c .value .given .1)) ∙ after n
 
-unread-requires : tie.Need-unread-requires
-unread-requires c κs = search needs
+refused-length-requires : tie.Need-refused-length-requires
+refused-length-requires c κs = search needs
 
 returns : tie.Need-returns
 unfolding migratedLengthOf
-returns c = c .unread .ensures ∙ sym (whole-long oldNumber _ migratedLength (c .before .if1 .taken))
+returns c = c .refused-length .ensures ∙ sym (whole-long oldNumber _ migratedLength (c .before .if1 .taken))
 
 old-number-at-requires : tie.Need-old-number-at-requires
 old-number-at-requires c κs = search needs
@@ -51,14 +51,14 @@ old-number-at-requires c κs = search needs
 enum-known-value : tie.Need-enum-known-value
 enum-known-value c = search needs
 
-unread-requires-2 : tie.Need-unread-requires-2
-unread-requires-2 c κs = search needs
+refused-length-requires-2 : tie.Need-refused-length-requires-2
+refused-length-requires-2 c κs = search needs
 
 returns-2 : tie.Need-returns-2
 returns-2 c =
     let m = c .before .before .before in
     let many : maxRows < m .value .given .0 .0 = omega (arith, c .before .if2 .taken) in
-    c .unread2 .ensures ∙ (rw (lt-leb _ _ many)) ∙ known m
+    c .refused-length2 .ensures ∙ (rw (lt-leb _ _ many)) ∙ known m
 
 rows-length-requires : tie.Need-rows-length-requires
 rows-length-requires c κs = search needs
@@ -66,8 +66,8 @@ rows-length-requires c κs = search needs
 enum-known-place : tie.Need-enum-known-place
 enum-known-place c = search needs
 
-unread-requires-3 : tie.Need-unread-requires-3
-unread-requires-3 c κs = search needs
+refused-length-requires-3 : tie.Need-refused-length-requires-3
+refused-length-requires-3 c κs = search needs
 
 returns-3 : tie.Need-returns-3
 returns-3 c =
@@ -84,20 +84,20 @@ returns-4 : tie.Need-returns-4
 returns-4 c =
     let m = c .before .before in
     let n = m .before .before in
-    c .unread3 .ensures ∙ sym (ap (length-after n) (m .place .given .1)) ∙ after n
+    c .refused-length3 .ensures ∙ sym (ap (length-after n) (m .place .given .1)) ∙ after n
 
 pub migrated-length-spec : {M : Type 1} → statement M
 migrated-length-spec =
     tie.close
     (tie.spec
-    unread-requires
+    refused-length-requires
     returns
     old-number-at-requires
     enum-known-value
-    unread-requires-2
+    refused-length-requires-2
     returns-2
     rows-length-requires
     enum-known-place
-    unread-requires-3
+    refused-length-requires-3
     returns-3
     returns-4)

@@ -6,11 +6,15 @@ use native.Mathlib.Omega.{arith}
 use borrow.Author.Needs.{needs}
 use denote.Ref.{now}
 use lib.ListN.{drop}
+use Rattle.answers.specs.Numbers.{malformedPlan}
+use Rattle.leb128.specs.Answers.{numberValues}
+use Rattle.leb128.specs.declared.Number.{Number}
 use Rattle.leb128_write.specs.Answers.{numberLength}
 use Rattle.old_number.specs.OldNumber.{oldNumber}
 use Rattle.old_number.proofs.Reading.{bad-known}
 use Rattle.plan_read.specs.Plan.{rowsBy}
 use Rattle.plan_read.specs.Laws.Reading.{rows-bad, rows-over, rows-end}
+use Rattle.plan_length.specs.Length.{refusedLength}
 use Rattle.plan_migration.specs.Room.{lengthWith}
 use Rattle.plan_migration.proofs.Rows.{Found, found, three-bytes, with-more, with-none}
 use Rattle.plan_migration.proofs.rows_length.Statement.{statement}
@@ -32,16 +36,16 @@ abbrev start : tie.At-loop Inv-loop μ-loop → tie.Start Inv-loop μ-loop
 start t = t .before .before .before
 
 -- a turn that read a row
-abbrev read : tie.After-value Inv-loop μ-loop → tie.After-old-number-at Inv-loop μ-loop
+abbrev read : tie.After-read Inv-loop μ-loop → tie.After-old-number-at Inv-loop μ-loop
 read w = w .before .before
 
-row-found : (w : tie.After-value Inv-loop μ-loop) → let t = turn (read w) in
-    Found (t .loop .at) (now (start t .args .plan)) (w .value .given .0 .0) (w .value .given .0 .1 .0)
+row-found : (w : tie.After-read Inv-loop μ-loop) → let t = turn (read w) in
+    Found (t .loop .at) (now (start t .args .plan)) (w .read .given .0 .0) (w .read .given .0 .1 .0)
 row-found w =
     let r = read w in
     let t = turn r in
-    found (t .loop .at) (now (start t .args .plan)) (r .old-number-at .result) (w .value .given .0 .0) (w .value .given .0 .1 .0) (r .old-number-at .ensures)
-    (w .value .given .1)
+    found (t .loop .at) (now (start t .args .plan)) (r .old-number-at .result) (w .read .given .0 .0) (w .read .given .0 .1 .0) (r .old-number-at .ensures)
+    (w .read .given .1)
 
 number-length-requires : tie.Need-number-length-requires Inv-loop μ-loop
 number-length-requires c κs = search needs
@@ -55,8 +59,14 @@ loop-holds c =
 old-number-at-requires : tie.Need-old-number-at-requires Inv-loop μ-loop
 old-number-at-requires c κs = search needs
 
-enum-known-value : tie.Need-enum-known-value Inv-loop μ-loop
-enum-known-value c = search needs
+enum-known-read : tie.Need-enum-known-read Inv-loop μ-loop
+enum-known-read c = search needs
+
+enum-told : tie.Need-enum-told Inv-loop μ-loop
+enum-told c = search needs
+
+failed-at-requires : tie.Need-failed-at-requires Inv-loop μ-loop
+failed-at-requires c κs = search needs
 
 number-length-requires-2 : tie.Need-number-length-requires-2 Inv-loop μ-loop
 number-length-requires-2 c κs = search needs
@@ -65,7 +75,7 @@ add-length : tie.Need-add-length Inv-loop μ-loop
 add-length c =
     let w = c .before .before in
     let t = turn (read w) in
-    omega (arith, three-bytes (w .value .given .0 .0), c .number-length2 .ensures, t .loop .inv .1 .0, read w .before .loop-test .taken)
+    omega (arith, three-bytes (w .read .given .0 .0), c .number-length2 .ensures, t .loop .inv .1 .0, read w .before .loop-test .taken)
 
 add-i : tie.Need-add-i Inv-loop μ-loop
 add-i c = search needs
@@ -78,45 +88,43 @@ loop-again c =
     let w = c .before .before in
     let t = turn (read w) in
     let a = start t .args in
-    let v = w .value .given .0 .0 in
+    let v = w .read .given .0 .0 in
     let h = read w .before .loop-test .taken in (
       omega (arith, h),
       (
         omega (arith, three-bytes v, c .number-length2 .ensures, t .loop .inv .1 .0),
         rw (c .number-length2 .ensures)
-            (sym (with-more (now (a .plan)) (t .loop .i) (a .count) (t .loop .at) v (w .value .given .0 .1 .0) (t .loop .length) h (row-found w))
+            (sym (with-more (now (a .plan)) (t .loop .i) (a .count) (t .loop .at) v (w .read .given .0 .1 .0) (t .loop .length) h (row-found w))
             ∙ t .loop .inv .1 .1),
       ),
     )
 
-enum-known-place : tie.Need-enum-known-place Inv-loop μ-loop
-enum-known-place c = search needs
-
-unread-requires : tie.Need-unread-requires Inv-loop μ-loop
-unread-requires c κs = search needs
+refused-length-requires : tie.Need-refused-length-requires Inv-loop μ-loop
+refused-length-requires c κs = search needs
 
 returns : tie.Need-returns Inv-loop μ-loop
 returns c =
-    let w = c .before .before in
-    let r = w .before .before in
+    let m = c .before .before in
+    let r = m .before .before in
     let t = turn r in
     let a = start t .args in
-    let place = w .place .given .0 .0 in
-    c .unread .ensures
-    ∙ sym (ap (lengthWith (t .loop .length)) (rows-bad oldNumber (now (a .plan)) (t .loop .i) (a .count) (t .loop .at) place (r .before .loop-test .taken)
-    (bad-known (oldNumber (t .loop .at) (drop (t .loop .at) (now (a .plan)))) (r .old-number-at .result) place (r .old-number-at .ensures)
-    (w .place .given .1))))
+    let other = m .enum-told .given in
+    c .refused-length .ensures ∙ ap (refusedLength malformedPlan) (c .before .failed-at .ensures ∙ ap (λ (q : Number). numberValues q .place) (other .1))
+    ∙ sym (ap (lengthWith (t .loop .length)) (rows-bad oldNumber (now (a .plan)) (t .loop .i) (a .count) (t .loop .at) (other .0 .0)
+    (r .before .loop-test .taken)
+    (bad-known (oldNumber (t .loop .at) (drop (t .loop .at) (now (a .plan)))) (r .old-number-at .result) (other .0 .0) (r .old-number-at .ensures)
+    (other .1))))
     ∙ t .loop .inv .1 .1
 
-unread-requires-2 : tie.Need-unread-requires-2 Inv-loop μ-loop
-unread-requires-2 c κs = search needs
+refused-length-requires-2 : tie.Need-refused-length-requires-2 Inv-loop μ-loop
+refused-length-requires-2 c κs = search needs
 
 returns-2 : tie.Need-returns-2 Inv-loop μ-loop
 returns-2 c =
     let past = c .before .before in
     let t = past .before in
     let a = start t .args in
-    c .unread2 .ensures
+    c .refused-length2 .ensures
     ∙ sym (ap (lengthWith (t .loop .length)) (rows-over oldNumber (now (a .plan)) (t .loop .i) (a .count) (t .loop .at) (past .loop-test .left)
     (c .before .if1 .taken)))
     ∙ t .loop .inv .1 .1
@@ -139,15 +147,16 @@ rows-length-spec =
     number-length-requires
     loop-holds
     old-number-at-requires
-    enum-known-value
+    enum-known-read
+    enum-told
+    failed-at-requires
+    refused-length-requires
+    returns
     number-length-requires-2
     add-length
     add-i
     loop-less
     loop-again
-    enum-known-place
-    unread-requires
-    returns
-    unread-requires-2
+    refused-length-requires-2
     returns-2
     returns-3)

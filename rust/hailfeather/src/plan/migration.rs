@@ -22,7 +22,7 @@ pub fn migrated_length(plan: &[u8]) -> Result<usize, Refusal> {
 }
 
 /// Reads a plan by the old rule and writes the one with the same rows, each number in the fewest groups, into `out`, which has exactly the length that
-/// [`migrated_length`] answers. A plan that keeps today's rule is written as it is. Refuses with 5, 9; with 9 for another length of `out` there is no
+/// [`migrated_length`] answers. A plan that keeps the present rule is written as it is. Refuses with 5, 9; with 9 for another length of `out` there is no
 /// place, unless the plan is malformed too.
 ///
 /// ```
@@ -45,7 +45,7 @@ pub fn migrate_into(plan: &[u8], out: &mut [u8]) -> Result<(), Refusal> {
     }
 }
 
-/// The plan by today's rule with the rows that a plan has by the old one. Refuses with 5, 9.
+/// The plan by the present rule with the rows that a plan has by the old one. Refuses with 5, 9.
 ///
 /// ```
 /// use hailfeather::plan;
