@@ -1,6 +1,6 @@
 -- The theorems on migration. What is written is the plan of the rows that were read, so that the round trip of writing says what it reads as; a plan that keeps
 -- the present rule has one form, which is what is written.
-use mathlib.Core.Path.{_≡_, refl, sym, ap, _∙_}
+use mathlib.Core.Path.{_≡_, refl, sym, ap, subst, _∙_}
 use mathlib.Core.List.{List}
 use Prim.Native.Nat.{ℕ, _≤_}
 use native.Mathlib.Omega.{arith}
@@ -14,6 +14,7 @@ use Rattle.plan_length.specs.Length.{lengthOf}
 use Rattle.plan_length.specs.declared.PlanLength.{PlanLength}
 use Rattle.plan_length.specs.declared.PlanWritten.{PlanWritten}
 use Rattle.plan_write.specs.Write.{writeRefusal, writtenOf}
+use Rattle.plan_write.specs.RoundTrip.{ReadsAs}
 use Rattle.plan_write.proofs.RoundTrip.{round-trip}
 use Rattle.canonical_theorems.proofs.Plans.{accepted-rows, plan-written, write-back}
 use Rattle.plan_migration.specs.Migration.{oldPlanOf, migratedLengthOf, migrateAnswer, migratedInto, Migrates}
@@ -42,7 +43,8 @@ module _ (s : List ℕ) (l : List Row) (e : oldPlanOf s ≡ rows l) where
             ∙ ap (writeRefusal (rowDestinations l)) same
             ∙ round-trip .length-accepted (rowDestinations l) (ap (λ (q : PlanLength). q .number) (length-written s l e));
         reads = λ out after r m z.
-            rw (buffer-is out after r m) (round-trip .reads-back (rowDestinations l) out (sym (number-is out after r m) ∙ z));
+            subst (ReadsAs (rowDestinations l)) (sym (buffer-is out after r m))
+            (round-trip .reads-back (rowDestinations l) out (sym (number-is out after r m) ∙ z));
       }
 
 as-it-is : (s : List ℕ) → Bytes s → summaryOf s .number ≡ done → StaysAsItIs s
