@@ -3,21 +3,15 @@
 #define PORTABLE_NUMBER_H
 #include "work.h"
 
-/* The number at the cursor, which moves past it; -1 where a byte is missing, a third group promises a fourth, or the last of several groups is empty.
-   The first group, after which most numbers end and which may be empty, is judged apart. */
+/* The number at the cursor, which moves past it; -1 where a byte is missing, a third group promises a fourth, or the last of several groups is empty. */
 static inline long number_at(size_t *cursor)
 {
-    if (*cursor >= work.plan_length)
-        return -1;
-    long value = work.plan[(*cursor)++];
-    if (value < 128)
-        return value;
-    value -= 128;
-    for (int shift = 7; shift < 21 && *cursor < work.plan_length; shift += 7) {
+    long value = 0;
+    for (int shift = 0; shift < 21 && *cursor < work.plan_length; shift += 7) {
         uint8_t byte = work.plan[(*cursor)++];
         value += (long)(byte & 127) << shift;
         if (byte < 128)
-            return byte == 0 ? -1 : value;
+            return byte == 0 && shift > 0 ? -1 : value;
     }
     return -1;
 }

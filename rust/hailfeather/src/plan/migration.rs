@@ -1,6 +1,6 @@
 //! The migration of old copies of chute plans.
 //!
-//! By the old rule a number may stand in more groups than it needs, though not in more than three: `87 00` is 7, as `07` is. Everything else is as today.
+//! By the old rule a number may stand in more groups than it needs, though not in more than three: `87 00` is 7, as `07` is. In all else it is the present rule.
 
 use crate::ffi;
 use crate::refusal::{check, check_plan, Refusal};
