@@ -1,12 +1,9 @@
 /* What bench/before_after measures: ours.c over the archive of an earlier commit, and over a later one. */
-#include "../include/hailfeather.h"
 #include "work.h"
 
 extern const struct worker before_ours, after_ours;
 const struct worker *const workers[] = {&before_ours, &after_ours, NULL};
 const int visits = VISITS;
-const uint64_t edition = HF_EDITION_1; /* the one that both archives have; bench/before_after asks those that have no other by without_editions.c */
-const uint32_t oldest = 200;           /* since then the answers on plans have the layout that the header has */
 
 const struct row rows[] = {
     {"Keccak-p[1600, 24], runs", PERMUTATION, {10000}},

@@ -1,5 +1,4 @@
 /* What bench/run measures: ours beside OpenSSL and portable C, and beside one call of KMACXOF256 what is made of it. */
-#include "../include/hailfeather.h"
 #include "work.h"
 
 static void one_call(size_t size) { ours.tasks[KMACXOF256](size); }
@@ -15,8 +14,6 @@ static const struct worker one = {
 
 const struct worker *const workers[] = {&ours, &openssl, &portable, &one, NULL};
 const int visits = 20;
-const uint64_t edition = HF_EDITION_2; /* OpenSSL and portable C make no other */
-const uint32_t oldest = HF_VERSION;
 
 const struct row rows[] = {
     {"Keccak-p[1600, 24], runs", PERMUTATION, {64}},

@@ -5,7 +5,6 @@
 #include <openssl/params.h>
 #include <string.h>
 
-#include "right_encode.h"
 #include "work.h"
 
 static EVP_MAC_CTX *mac_context(void)
@@ -81,30 +80,18 @@ static void combined(const uint8_t *text, size_t size)
         work.out[i] = text[i] ^ stream[KEY + i];
 }
 
-/* A tag of edition 2 over a ciphertext and an empty label, by the authentication key with which the key stream begins. */
-static void tag_of(const uint8_t *sealed, size_t size, uint8_t *tag)
-{
-    uint8_t lengths[2 * RIGHT_ENCODED];
-    size_t encoded = right_encoded(8 * size, lengths), made;
-    encoded += right_encoded(0, lengths + encoded);
-    EVP_MAC_CTX *context = started(stream, KEY, "plan seal 2", 11, 1, TAG);
-    EVP_MAC_update(context, sealed, size);
-    EVP_MAC_update(context, lengths, encoded);
-    EVP_MAC_final(context, tag, &made, TAG);
-}
-
 static void sealing(size_t size)
 {
     mac(work.key, work.iv, IV, 1, work.text, 0, stream, KEY + size);
     combined(work.text, size);
-    tag_of(work.out, size, work.tag);
+    mac(stream, work.iv, 0, 1, work.out, size, work.tag, TAG);
 }
 
 static void opening(size_t size)
 {
     uint8_t tag[TAG];
     mac(work.key, work.iv, IV, 1, work.text, 0, stream, KEY + size);
-    tag_of(work.sealed, size, tag);
+    mac(stream, work.iv, 0, 1, work.sealed, size, tag, TAG);
     work.answer = CRYPTO_memcmp(tag, work.seal_tag, TAG) == 0 ? 0 : 8;
     if (work.answer == 0)
         combined(work.sealed, size);

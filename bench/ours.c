@@ -26,11 +26,11 @@ static void session(size_t piece)
     hf_session_give(step.session, work.out, OUT);
 }
 
-static void sealing(size_t size) { hf_seal(edition, work.key, KEY, work.iv, IV, work.text, size, work.key, 0, work.out, size, work.tag, TAG); }
+static void sealing(size_t size) { hf_seal(work.key, KEY, work.iv, IV, work.text, size, work.key, 0, work.out, size, work.tag, TAG); }
 
 static void opening(size_t size)
 {
-    work.answer = hf_open(edition, work.key, KEY, work.iv, IV, work.sealed, size, work.key, 0, work.out, size, work.seal_tag, TAG).number;
+    work.answer = hf_open(work.key, KEY, work.iv, IV, work.sealed, size, work.key, 0, work.out, size, work.seal_tag, TAG).number;
 }
 
 static void drawing(size_t size)

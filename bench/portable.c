@@ -67,13 +67,10 @@ static void combine(sponge *s, const uint8_t *text, size_t size)
         work.out[i] ^= text[i];
 }
 
-/* A tag of edition 2 over a ciphertext and an empty label. */
 static void tag_of(const uint8_t *auth_key, const uint8_t *sealed, size_t size, uint8_t *tag)
 {
-    sponge s = keyed(auth_key, KEY, "plan seal 2", 11);
+    sponge s = keyed(auth_key, KEY, work.iv, 0);
     absorb(&s, sealed, size);
-    right_encode(&s, 8 * size);
-    right_encode(&s, 0);
     end_xof(&s, tag, TAG);
 }
 

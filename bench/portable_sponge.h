@@ -4,7 +4,6 @@
 #include <string.h>
 
 #include "portable_keccak.h"
-#include "right_encode.h"
 #include "work.h"
 
 typedef struct {
@@ -57,12 +56,6 @@ static void encode_string(sponge *s, const uint8_t *bytes, size_t length)
         bits[0] = 2, bits[1] = (uint8_t)(length >> 5), bits[2] = (uint8_t)(8 * length);
     absorb(s, bits, bits[0] + 1u);
     absorb(s, bytes, length);
-}
-
-static void right_encode(sponge *s, uint64_t number)
-{
-    uint8_t encoded[RIGHT_ENCODED];
-    absorb(s, encoded, right_encoded(number, encoded));
 }
 
 static void pad_block(sponge *s)

@@ -146,8 +146,8 @@ static void fill(void)
         work.key[i] = work.drawing_key[i] = (uint8_t)(0x40 + i);
     memcpy(work.name, "bench 01", NAME), memcpy(work.custom, "plan key", CUSTOM);
     for (int w = 0; workers[w] != NULL; w++)
-        if (workers[w]->version != NULL && (workers[w]->version() < oldest || workers[w]->version() > HF_VERSION)) {
-            fprintf(stderr, "an archive is of version %u, not of %u to %u\n", workers[w]->version(), oldest, HF_VERSION);
+        if (workers[w]->version != NULL && workers[w]->version() != HF_VERSION) {
+            fprintf(stderr, "an archive is of version %u, and include/hailfeather.h of %u\n", workers[w]->version(), HF_VERSION);
             exit(1);
         }
 }

@@ -44,7 +44,7 @@ struct worker {
     const char *name;
     task *tasks[KINDS];
     unsigned aside;            /* a bit for each kind where it does other work than the rest, so that its answers are not compared */
-    uint32_t (*version)(void); /* of a library that has one */
+    uint32_t (*version)(void); /* of a library that has one: it has to be the header's */
 };
 extern const struct worker ours, openssl, portable;
 
@@ -58,8 +58,6 @@ struct row {
 extern const struct row rows[];
 extern const struct worker *const workers[];
 extern const int visits;
-extern const uint64_t edition; /* of the seals */
-extern const uint32_t oldest;  /* the oldest version of an archive of which every row can be asked as the header has it */
 
 task portable_plan_read, portable_plan_lookup, portable_hall_read, portable_hall_lookup;
 

@@ -2,7 +2,6 @@
 //   javac -cp /usr/share/java/bcprov.jar -d FOLDER compare/*.java && java -cp /usr/share/java/bcprov.jar:FOLDER BouncyCastle FILE
 // Openings refused with 8 are worked out too: their tag has to be another. Bouncy Castle 1.72 takes every accepted call, and counts no runs.
 
-import static org.bouncycastle.crypto.digests.XofUtils.rightEncode;
 import static org.bouncycastle.util.Arrays.concatenate;
 
 import java.io.ByteArrayOutputStream;
@@ -15,8 +14,6 @@ import org.bouncycastle.crypto.params.KeyParameter;
 
 public final class BouncyCastle {
     static final int AUTH_KEY = 32; // bytes: the authentication key of a seal
-    static final Set<String> EDITIONS = Set.of("1", "2");
-    static final byte[] PLAN_SEAL_2 = "plan seal 2".getBytes(StandardCharsets.US_ASCII); // the customisation of edition 2's tag
     static final int GENERATOR_KEY = 64;
     static final int PIECE = 208;
     static final String NOT_OFFERED = "the permutation and plans, which Bouncy Castle does not offer";
@@ -57,28 +54,21 @@ public final class BouncyCastle {
         return stream;
     }
 
-    /** The tag by the edition of a call. */
-    static byte[] tag(Call call, byte[] crypted, byte[] ciphertext, byte[] label, int length) {
-        byte[] key = Arrays.copyOf(crypted, AUTH_KEY);
-        byte[] joined = concatenate(ciphertext, label);
-        if (call.given()[0].equals("1")) {
-            return hash("kmacxof256", key, Call.NONE, joined, length);
-        }
-        byte[] lengths = concatenate(rightEncode(8L * ciphertext.length), rightEncode(8L * label.length));
-        return hash("kmacxof256", key, PLAN_SEAL_2, concatenate(joined, lengths), length);
+    static byte[] tag(byte[] crypted, byte[] ciphertext, byte[] label, int length) {
+        return hash("kmacxof256", Arrays.copyOf(crypted, AUTH_KEY), Call.NONE, concatenate(ciphertext, label), length);
     }
 
     static boolean sealed(Call call) {
-        byte[] crypted = crypt(call.bytes(1), call.bytes(2), call.bytes(3));
+        byte[] crypted = crypt(call.bytes(0), call.bytes(1), call.bytes(2));
         byte[] ciphertext = Arrays.copyOfRange(crypted, AUTH_KEY, crypted.length);
-        return call.answered(2, ciphertext) && call.answered(3, tag(call, crypted, ciphertext, call.bytes(4), call.number(6)));
+        return call.answered(2, ciphertext) && call.answered(3, tag(crypted, ciphertext, call.bytes(3), call.number(5)));
     }
 
     static boolean opened(Call call) {
-        byte[] ciphertext = call.bytes(3);
-        byte[] given = call.bytes(6);
-        byte[] crypted = crypt(call.bytes(1), call.bytes(2), ciphertext);
-        boolean matches = Arrays.equals(given, tag(call, crypted, ciphertext, call.bytes(4), given.length));
+        byte[] ciphertext = call.bytes(2);
+        byte[] given = call.bytes(5);
+        byte[] crypted = crypt(call.bytes(0), call.bytes(1), ciphertext);
+        boolean matches = Arrays.equals(given, tag(crypted, ciphertext, call.bytes(3), given.length));
         return call.answer()[0].equals("8") ? !matches : matches && call.answered(2, Arrays.copyOfRange(crypted, AUTH_KEY, crypted.length));
     }
 
@@ -154,8 +144,8 @@ public final class BouncyCastle {
             case "refused" -> leaveOut("refused");
             case "take" -> session.ifPresentOrElse(one -> one.message.writeBytes(call.bytes(0)), () -> leaveOut(NOT_STARTED));
             case "give" -> session.ifPresentOrElse(one -> one.asks.add(call), () -> leaveOut(NOT_STARTED));
-            case "seal" -> counted(call, EDITIONS.contains(call.given()[0]) && sealed(call));
-            case "open" -> counted(call, EDITIONS.contains(call.given()[0]) && opened(call));
+            case "seal" -> counted(call, sealed(call));
+            case "open" -> counted(call, opened(call));
             case "seed" -> counted(call, seeded(call));
             case "draw" -> counted(call, drawn(call));
             default -> counted(call, call.answered(2, hash(call.entry(), call.bytes(0), call.bytes(1), call.bytes(2), call.number(3))));

@@ -3,8 +3,8 @@
     python3 compare/calls.py SEED COUNT [small]
 
 COUNT is the least number of lines; `small` leaves out those around 16 MiB. Fails unless every refusal of include/refusals.txt that is then within
-reach, and an acceptance of every entry, are among the answers, those of `seed` and `draw` for either generator, those of `seal` and `open` in either
-edition and, before 8, in an unknown one, and every row of the table in docs/RULES.md, "Places", for every entry that can meet it.
+reach, and an acceptance of every entry, are among the answers, those of `seed` and `draw` for either generator, and every row of the table in
+docs/RULES.md, "Places", for every entry that can meet it.
 """
 
 import os
@@ -43,7 +43,6 @@ KINDS = {
     hall_calls.write: 7,
 }
 FRESH, OF_GENERATORS = ("generator_fresh", "kmac_generator_fresh"), ("seed", "draw")
-EDITIONS, UNKNOWN, OF_SEALS = ("edition 1", "edition 2"), "unknown edition", ("seal", "open")
 LIMITS = (limit_calls.one_shot, limit_calls.session, limit_calls.seal, limit_calls.draw, hall_calls.too_many_entries)
 
 
@@ -53,7 +52,6 @@ def lines(rng, count, small):
     yield from migration_calls.limits(rng)
     yield from hall_calls.limits(rng)
     yield from place_calls.limits(rng)
-    yield from seal_calls.editions(rng)
     if not small:
         for calls in LIMITS:
             yield from calls(rng)
@@ -73,37 +71,21 @@ def answer_of(line):
     return entry, int(answer.split()[0]) if answer and entry != "keccak_p" else 0
 
 
-def edition_of(line):
-    """The edition of a seal's line in words."""
-    edition = f"edition {line.split(' ')[1]}"
-    return edition if edition in EDITIONS else UNKNOWN
-
-
 def answers(made):
-    """Each line with its entry and number; the entry is named with the generator that the line goes on with, or with the edition of its seal."""
+    """Each line with its entry and number; where the line goes on with a generator, the entry is named with the one it is."""
     fresh = None
     for line in made:
         entry, number = answer_of(line)
         fresh = entry if entry in FRESH else fresh
-        of = fresh if entry in OF_GENERATORS else edition_of(line) if entry in OF_SEALS else None
-        yield line, (f"{of}, {entry}" if of else entry, number)
-
-
-def named(entry, number):
-    """The names of an entry, as above, that have to be answered with a number."""
-    if entry in OF_GENERATORS:
-        return [f"{fresh}, {entry}" for fresh in FRESH]
-    if entry in OF_SEALS:
-        editions = {0: EDITIONS, 8: EDITIONS, 12: (UNKNOWN,)}.get(number, (*EDITIONS, UNKNOWN))
-        return [f"{edition}, {entry}" for edition in editions]
-    return [entry]
+        yield line, (f"{fresh}, {entry}" if entry in OF_GENERATORS else entry, number)
 
 
 def owed():
     """Every refusal in words, and an acceptance of its entry."""
     with open(os.path.join(fast_sponge.ROOT, "include", "refusals.txt"), encoding="ascii") as table:
         refusals = {(entry, int(number)) for entry, number, *_ in map(str.split, table)}
-    return {(name, number) for entry, number in refusals | {(entry, 0) for entry, _ in refusals} for name in named(entry, number)}
+    named = {(name, number) for entry, number in refusals for name in ([f"{fresh}, {entry}" for fresh in FRESH] if entry in OF_GENERATORS else [entry])}
+    return named | {(entry, 0) for entry, _ in named}
 
 
 def main(seed, count, small):

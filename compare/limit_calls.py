@@ -6,7 +6,6 @@ import sessions
 from callfile import pattern, written
 from choose import MOST
 from hash_calls import given, taken
-from seal_calls import opening
 from sp800_185 import cshake256, kmac256, kmacxof256
 
 SIDES = [MOST, MOST + 1]
@@ -37,18 +36,16 @@ def session(rng):
 
 
 def seal(rng):
-    """Text and label together at each side, the one or the other being the long one, in both editions and in one that there is not; opened with both tags."""
+    """Text and label together at each side, the one or the other being the long one."""
     key, iv = rng.randbytes(32), rng.randbytes(12)
     _, auth_key, _ = sealing.crypt(key, iv, b"")
     for side in SIDES:
         for length in (side - 9, 9, side):
             text, label = pattern(length, rng.randrange(256)), pattern(side - length, 7)
-            tags = [sealing.auth(edition, auth_key, label, text, 32)[0] for edition in sealing.EDITIONS]
-            for edition in (*sealing.EDITIONS, 3):
-                arguments = [edition, key, iv, text, label, length]
-                yield written("seal", [*arguments, 32], sealing.seal(*arguments, 32))
-                for tag in tags:
-                    yield opening(*arguments, tag)
+            yield written("seal", [key, iv, text, label, length, 32], sealing.seal(key, iv, text, label, length, 32))
+            good, _ = sealing.auth(auth_key, label, text, 32)
+            for tag in (good, good[:31] + bytes([good[31] ^ 1])):
+                yield written("open", [key, iv, text, label, length, tag], sealing.open_sealed(key, iv, text, label, tag, length))
 
 
 def draw(rng):

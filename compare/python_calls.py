@@ -58,12 +58,12 @@ class Reader(PlanReader):
 
     def seal(self, given: Any) -> Tuple:
         same_length(given.text, given.length)
-        sealed = hailfeather.seal(given.key, given.iv, given.text, edition=given.edition, label=given.label, tag_length=given.tag_length)
+        sealed = hailfeather.seal(given.key, given.iv, given.text, given.label, given.tag_length)
         return 0, sealed.runs, sealed.ciphertext, sealed.tag
 
     def open(self, given: Any) -> Tuple:
         same_length(given.ciphertext, given.length)
-        text = hailfeather.open_sealed(given.key, given.iv, given.ciphertext, given.tag, edition=given.edition, label=given.label)
+        text = hailfeather.open_sealed(given.key, given.iv, given.ciphertext, given.tag, given.label)
         return 0, text.runs, text
 
     def generator_fresh(self, given: Any) -> Tuple:

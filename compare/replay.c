@@ -18,7 +18,7 @@ static const struct {
     {"kmac256", 8, replay_hash},           {"kmacxof256", 8, replay_hash},
     {"session_cshake256", 4, replay_session}, {"session_kmacxof256", 4, replay_session},
     {"take", 3, replay_session},           {"give", 4, replay_session},
-    {"seal", 12, replay_seal},             {"open", 11, replay_seal},
+    {"seal", 11, replay_seal},             {"open", 10, replay_seal},
     {"generator_fresh", 1, replay_generator}, {"kmac_generator_fresh", 1, replay_generator},
     {"seed", 6, replay_generator},         {"draw", 7, replay_generator},
     {"plan_read", 5, replay_plan},         {"plan_destination", 6, replay_plan},

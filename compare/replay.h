@@ -9,7 +9,7 @@
 #include "../include/hailfeather.h"
 
 /* A line's fields in order, the `=` left out. */
-enum { MOST_FIELDS = 13 }; /* one more than any entry has, so that a field too many is seen */
+enum { MOST_FIELDS = 12 };
 typedef struct {
     char *fields[MOST_FIELDS];
     int count;

@@ -6,12 +6,6 @@ from callfile import written
 from choose import MOST, SEED, STRING, TOO_LONG, block_length, output_length, short_length, some_bytes, string_length
 
 OTHER_KEYS = [0, 16, 31, 33, 64]  # lengths of keys that no seal has
-UNKNOWN = [0, 3, 257, 2**32 + 1, 2**32 + 2, 2**64 - 1]  # no editions, though some would be one if they were cut to fewer bits
-OTHER_EDITION = {1: 2, 2: 1}
-
-
-def some_edition(rng):
-    return rng.choice(sealing.EDITIONS if rng.random() < 0.94 else UNKNOWN)
 
 
 def tag_length(rng):
@@ -27,49 +21,23 @@ def lent_length(rng, text):
 
 
 def seal(rng):
-    """Seals, then opens what was sealed, whole, in the other edition, and damaged; in an unknown edition opens the text."""
-    edition = some_edition(rng)
+    """Seals, then opens what was sealed, whole and damaged."""
     key = some_bytes(rng, 32 if rng.random() < 0.96 else rng.choice(OTHER_KEYS))
     iv, text, label = (some_bytes(rng, length(rng)) for length in (string_length, block_length, block_length))
     if rng.random() < 0.003:
         label = some_bytes(rng, MOST - len(text) + rng.choice([1, 2]))
-    arguments = [edition, key, iv, text, label, lent_length(rng, text), tag_length(rng)]
+    arguments = [key, iv, text, label, lent_length(rng, text), tag_length(rng)]
     number, runs, ciphertext, tag = sealing.seal(*arguments)
     yield written("seal", arguments, [number, runs, ciphertext, tag])
     if number == 0:
-        yield opened(rng, edition, key, iv, ciphertext, label, tag)
-        yield opened(rng, OTHER_EDITION[edition], key, iv, ciphertext, label, tag)
-        yield opened(rng, edition, *damaged(rng, [key, iv, ciphertext, label, tag]))
-    if number == 12:
-        yield opened(rng, edition, key, iv, text, label, rng.randbytes(tag_length(rng)))
+        yield opened(rng, key, iv, ciphertext, label, tag)
+        yield opened(rng, *damaged(rng, [key, iv, ciphertext, label, tag]))
 
 
-def opened(rng, edition, key, iv, ciphertext, label, tag):
+def opened(rng, key, iv, ciphertext, label, tag):
     """The line of an opening."""
-    return opening(edition, key, iv, ciphertext, label, lent_length(rng, ciphertext), tag)
-
-
-def opening(edition, key, iv, ciphertext, label, length, tag):
-    """The line of an opening into so many bytes."""
-    answer = sealing.open_sealed(edition, key, iv, ciphertext, label, tag, length)
-    return written("open", [edition, key, iv, ciphertext, label, length, tag], answer)
-
-
-def editions(rng):
-    """In every edition and in those that there are not, good lengths and each bad one; what was sealed, cut at every place, in both editions."""
-    key, iv, text, label = (rng.randbytes(length) for length in (32, 12, 20, 7))
-    lengths = ((32, 12, 20, 16), (31, 12, 20, 16), (32, STRING + 1, 20, 16), (32, 12, 19, 16), (32, 12, 20, 15))
-    for edition in (*sealing.EDITIONS, *UNKNOWN):
-        for of_key, of_iv, of_output, of_tag in lengths:
-            its = [edition, key[:of_key], some_bytes(rng, of_iv), text, label, of_output]
-            yield written("seal", [*its, of_tag], sealing.seal(*its, of_tag))
-            yield opening(*its, rng.randbytes(of_tag))
-    for edition in sealing.EDITIONS:
-        _, _, ciphertext, tag = sealing.seal(edition, key, iv, text, label, len(text), 32)
-        joined = ciphertext + label
-        for border in range(len(joined) + 1):
-            for other in sealing.EDITIONS:
-                yield opening(other, key, iv, joined[:border], joined[border:], border, tag)
+    length = lent_length(rng, ciphertext)
+    return written("open", [key, iv, ciphertext, label, length, tag], sealing.open_sealed(key, iv, ciphertext, label, tag, length))
 
 
 def flipped(rng, part):

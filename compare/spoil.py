@@ -1,7 +1,6 @@
-"""Writes the calls of a file with one field of each answer changed, or the edition of a seal: a reader that compares must find every one of them.
+"""Writes the calls of a file with one field of each answer changed: a reader that compares must find every one of them.
 
-    python3 compare/spoil.py FILE          any field but those that C alone sees: where a walk stands, and, where no plan is malformed, the 0 that says so;
-                                           of half the seals whose answer depends on it the edition
+    python3 compare/spoil.py FILE          any field but those that C alone sees: where a walk stands, and, where no plan is malformed, the 0 that says so
     python3 compare/spoil.py FILE places   of every plan's and hall plan's answer the place, which plan is malformed, or where the walk stands, and nothing else
 """
 
@@ -12,8 +11,6 @@ WALK = ("plan_start", "plan_step")
 PLANS = ("plan_", "hall_")
 READ = (*WALK, "plan_read ", "plan_destination ", "plan_row ", "plan_migrate", "hall_read", "hall_destination ")  # how entries that read a plan begin
 MALFORMED, AT, PLACE = -2, -2, -1  # fields of an answer, from its end: of plan_row, of a walk, and of every plan
-SEALS = ("seal ", "open ")
-EDITIONS, UNKNOWN = ("1", "2"), ("0", "3", "258", "4294967297")
 
 
 def other(rng, field):
@@ -35,21 +32,10 @@ def seen(call, fields):
     return list(range(len(fields) - unseen))
 
 
-def editions(edition, number):
-    """The editions in which a seal that was answered with this number would be answered otherwise."""
-    others = {"0": (*EDITIONS, *UNKNOWN), "8": UNKNOWN, "12": EDITIONS}.get(number, ())
-    return [other for other in others if other != edition]
-
-
 def spoilt(rng, line):
-    """The line with one field after the `=` changed, or its edition."""
+    """The line with one field after the `=` changed."""
     call, _, answer = line.partition(" =")
     fields = answer.split()
-    if call.startswith(SEALS) and rng.random() < 0.5:
-        entry, edition, others = call.split(" ", 2)
-        among = editions(edition, fields[0])
-        if among:
-            return f"{entry} {rng.choice(among)} {others} ={answer}"
     among = seen(call + " ", fields)
     return changed(rng, call, fields, rng.choice(among)) if among else None
 

@@ -12,8 +12,7 @@
  * so never draw from two copies of one generator. Both hold secrets: overwrite them when they are no longer needed. Only pass in what a function of this
  * header handed back; of one made up by hand nothing is promised but that the call is safe, returns, and writes only the output lent to it.
  *
- * Numbers. What a call hands back has a number, which hf_number names: 0 is done, any other is a refusal. The smallest number that applies is given, but
- * 12 comes after 7 and before 8:
+ * Numbers. What a call hands back has a number, which hf_number names: 0 is done, any other is a refusal. Where several apply the smallest is given:
  *    0  done
  *    1  a session that is giving was asked to take, be it an empty piece; or a draw from a generator that was never seeded
  *    2  a KMAC256 or KMACXOF256 key is longer than 4,096 bytes; or a sealing key is not 32 bytes
@@ -28,7 +27,6 @@
  *    9  the plan is malformed; or rows or halls to be written break the plan's rules; or rows, halls or a migrated plan do not fill the lent buffer exactly;
  *       or the lists that halls are to be read into are not exactly as long as there are entries
  *   10  the plan has no such chute
- *   12  the edition of a seal is neither 1 nor 2
  * On a refusal every lent buffer and list is as it was before, a session or a generator is handed back as it was passed in, and a count, a destination, a
  * length and a number of rows, entries or chutes are 0. So a return value may be put in place of the old one whatever its number is. Three exceptions: the
  * answer for a malformed plan tells where it is malformed; a session that could not start is handed back giving, with nothing to give; and a walk that is asked
@@ -47,8 +45,8 @@
 extern "C" {
 #endif
 
-/* The version of this header, 0.4.0; hf_version tells that of the archive, and the two are to be equal. */
-#define HF_VERSION 400u
+/* The version of this header, 0.3.0; hf_version tells that of the archive, and the two are to be equal. */
+#define HF_VERSION 300u
 uint32_t hf_version(void);
 
 /* Nothing to lend: a pointer that is not null, for a length of 0. */
@@ -77,8 +75,7 @@ enum hf_number {
     HF_BAD_TAG_LENGTH = 7,
     HF_TAG_MISMATCH = 8,
     HF_MALFORMED_PLAN = 9,
-    HF_NO_SUCH_CHUTE = 10,
-    HF_UNKNOWN_EDITION = 12
+    HF_NO_SUCH_CHUTE = 10
 };
 
 /* The limits, in bytes unless said otherwise. */
@@ -151,26 +148,18 @@ hf_step hf_session_take(hf_session session, const uint8_t *piece, size_t piece_l
 hf_step hf_session_give(hf_session session, uint8_t *out, size_t out_length) HF_NONNULL;
 
 /* ---- Sealing and opening ----
- * The label is authenticated with the text and not encrypted. A seal has two editions, which encrypt alike and differ in what the tag covers:
- *    edition 1: ciphertext and label joined, not the place where one ends and the other begins, so that who cuts them in another place still has a good tag;
- *    edition 2: that place too, by the lengths of both.
- * Take edition 2 for new seals, and edition 1 for what was sealed with it, which is all that was sealed with a version before 0.4.0. Every call names the
- * edition: nothing sealed has it inside, and the tags of the two are never made of the same bytes. Never open by trying one after the other, since that would
- * open what edition 2 was made to refuse. An edition has 64 bits so that none of C's standard integers is cut to a good one. The count of runs is the sum over
- * the two calls of KMACXOF256 that each call is made of, in edition 2 at most one more than in edition 1. */
-#define HF_EDITION_1 1
-#define HF_EDITION_2 2
+ * The count of runs is the sum over the two calls of KMACXOF256 that each is made of. The label is authenticated with the text and not encrypted. The tag
+ * covers ciphertext and label joined, not the place where one ends and the other begins. */
 
-/* Seals text under a key of 32 bytes and an IV (never twice with one key and one IV, be it in two editions): the ciphertext into out, as long as the text,
-   and a tag of 16 to 64 bytes over ciphertext and label into tag. A shorter tag is the beginning of a longer one. Refuses with 2, 3, 5, 6, 7, 12. */
-hf_outcome hf_seal(uint64_t edition, const uint8_t *key, size_t key_length, const uint8_t *iv, size_t iv_length, const uint8_t *text, size_t text_length,
+/* Seals text under a key of 32 bytes and an IV (never twice with one key and one IV): the ciphertext into out, as long as the text, and a tag of 16 to 64
+   bytes over ciphertext and label into tag. A shorter tag is the beginning of a longer one. Refuses with 2, 3, 5, 6, 7. */
+hf_outcome hf_seal(const uint8_t *key, size_t key_length, const uint8_t *iv, size_t iv_length, const uint8_t *text, size_t text_length,
                    const uint8_t *label, size_t label_length, uint8_t *out, size_t out_length, uint8_t *tag, size_t tag_length) HF_NONNULL;
 
-/* Opens what was sealed with the same edition, key, IV and label: compares the tag first, and writes the text into out only if it is the one worked out
-   afresh. Refuses with 2, 3, 5, 6, 7, 12, 8. */
-hf_outcome hf_open(uint64_t edition, const uint8_t *key, size_t key_length, const uint8_t *iv, size_t iv_length, const uint8_t *ciphertext,
-                   size_t ciphertext_length, const uint8_t *label, size_t label_length, uint8_t *out, size_t out_length, const uint8_t *tag,
-                   size_t tag_length) HF_NONNULL;
+/* Opens what was sealed with the same key, IV and label: compares the tag first, and writes the text into out only if it is the one worked out afresh.
+   Refuses with 2, 3, 5, 6, 7, 8. */
+hf_outcome hf_open(const uint8_t *key, size_t key_length, const uint8_t *iv, size_t iv_length, const uint8_t *ciphertext, size_t ciphertext_length,
+                   const uint8_t *label, size_t label_length, uint8_t *out, size_t out_length, const uint8_t *tag, size_t tag_length) HF_NONNULL;
 
 /* ---- Generators ----
  * The cSHAKE generator (cSHAKE-DRNG), and the KMAC generator (KMAC-DRNG) for those whose policy names KMAC: they have the same limits, refusals and rules, but

@@ -18,11 +18,11 @@ TAKERS = {
     "customisation": lambda bad: kmac256(b"", b"", 1, bad),
     "key": lambda bad: kmacxof256(bad, b"", 1),
     "piece": lambda bad: Session.cshake256().write(bad),
-    "iv": lambda bad: seal(bytes(32), bad, b"", edition=2),
-    "text": lambda bad: seal(bytes(32), b"", bad, edition=2),
-    "label": lambda bad: seal(bytes(32), b"", b"", bad, edition=2),
-    "ciphertext": lambda bad: open_sealed(bytes(32), b"", bad, bytes(32), edition=2),
-    "tag": lambda bad: open_sealed(bytes(32), b"", b"", bad, edition=2),
+    "iv": lambda bad: seal(bytes(32), bad, b""),
+    "text": lambda bad: seal(bytes(32), b"", bad),
+    "label": lambda bad: seal(bytes(32), b"", b"", bad),
+    "ciphertext": lambda bad: open_sealed(bytes(32), b"", bad, bytes(32)),
+    "tag": lambda bad: open_sealed(bytes(32), b"", b"", bad),
     "seed": lambda bad: Generator().seed(bad),
     "personalisation": lambda bad: Generator().seed(b"", bad),
     "additional": lambda bad: Generator().draw(1, bad),
@@ -37,7 +37,7 @@ LENGTHS = {
     "give": lambda length: Session.cshake256().give(length),
     "draw": lambda length: seeded(Generator()).draw(length),
     "draw, KMAC": lambda length: seeded(KmacGenerator()).draw(length),
-    "seal": lambda length: seal(bytes(32), b"", b"", b"", length, edition=2),
+    "seal": lambda length: seal(bytes(32), b"", b"", b"", length),
 }
 
 

@@ -1,4 +1,4 @@
-"""Tests that the module declares the functions, structs and constants of include/hailfeather.h as they stand there."""
+"""Tests that the module declares the functions and structs of include/hailfeather.h as they stand there."""
 
 import re
 import subprocess
@@ -7,8 +7,8 @@ import unittest
 from ctypes import POINTER, Structure, c_size_t, c_uint8, c_uint32, c_uint64, sizeof
 from pathlib import Path
 
-from hailfeather import Edition, structs
-from hailfeather.library import FUNCTIONS, VERSION, functions
+from hailfeather import structs
+from hailfeather.library import FUNCTIONS, functions
 
 INCLUDE = Path(__file__).resolve().parent.parent / "include"
 HEADER = re.sub(r"/\*.*?\*/", "", (INCLUDE / "hailfeather.h").read_text(encoding="utf-8"), flags=re.DOTALL)
@@ -45,10 +45,6 @@ class Header(unittest.TestCase):
                 measures += [f"offsetof({name}, {field})", f"sizeof((({name} *)0)->{field})"]
                 expected += [getattr(made, field).offset, getattr(made, field).size]
         self.assertEqual(self.measured(measures), expected)
-
-    def test_constants(self) -> None:
-        self.assertEqual(self.measured(["HF_VERSION", "HF_EDITION_1", "HF_EDITION_2"]), [VERSION, Edition.ONE, Edition.TWO])
-        self.assertEqual(len(re.findall(r"^#define HF_EDITION_", HEADER, flags=re.MULTILINE)), len(Edition))
 
     def measured(self, measures: list) -> list:
         """The values of C expressions."""

@@ -1,10 +1,10 @@
-"""Tests on both sides of every limit that the library has, with the refusals' words and counts; seal_tests has those of seals."""
+"""Tests on both sides of every limit that the library has, with the refusals' words and counts."""
 
 import pickle
 import unittest
 from typing import Any, Callable, List
 
-from hailfeather import Generator, KmacGenerator, Refusal, Session, cshake256, kmac256, kmacxof256, plan
+from hailfeather import Generator, KmacGenerator, Refusal, Session, cshake256, kmac256, kmacxof256, open_sealed, plan, seal
 from hailfeather.generator import EitherGenerator
 from hailfeather.refusal import FILE, WORDS
 
@@ -60,6 +60,30 @@ class Limits(unittest.TestCase):
         self.refused("take", 1, session.take, b"")
         self.assertEqual(session.give(0), b"")
         self.assertEqual(given, kmacxof256(KEY, bytes(MOST), MOST))
+
+    def test_sealing(self) -> None:
+        for length in (0, 31, 33):
+            self.refused("seal", 2, seal, bytes(length), b"", b"")
+            self.refused("open", 2, open_sealed, bytes(length), b"", b"", bytes(32))
+        self.refused("seal", 3, seal, KEY, bytes(4_097), b"")
+        self.refused("open", 3, open_sealed, KEY, bytes(4_097), b"", bytes(32))
+        for length in (0, 15, 65):
+            self.refused("seal", 7, seal, KEY, b"", b"", b"", length)
+            self.refused("open", 7, open_sealed, KEY, b"", b"", bytes(length))
+        for length in (16, 64):
+            sealed = seal(KEY, bytes(4_096), b"text", b"label", length)
+            self.assertEqual((len(sealed.tag), sealed.runs), (length, 36))
+            opened = open_sealed(KEY, bytes(4_096), sealed.ciphertext, sealed.tag, b"label")
+            self.assertEqual((opened, opened.runs), (b"text", 36))
+            self.refused("open", 8, open_sealed, KEY, bytes(4_096), sealed.ciphertext, bytes(length), b"label")
+        self.assertEqual([seal(KEY, b"", bytes(length)).runs for length in (0, 104, 105)], [6, 6, 7])
+
+    def test_text_and_label(self) -> None:
+        for text, label in ((MOST, 0), (9, MOST - 9)):
+            sealed = seal(KEY, b"", bytes(text), bytes(label))
+            self.assertEqual(open_sealed(KEY, b"", sealed.ciphertext, sealed.tag, bytes(label)), bytes(text))
+            self.refused("seal", 5, seal, KEY, b"", bytes(text), bytes(label + 1))
+            self.refused("open", 5, open_sealed, KEY, b"", bytes(text + 1), bytes(32), bytes(label))
 
     def test_generators(self) -> None:
         self.generator(Generator(), 484, [0, 3, 6, 241_980])

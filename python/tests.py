@@ -14,7 +14,7 @@ from pathlib import Path
 import hailfeather
 from hailfeather import cshake256, keccak_p, kmac256, kmacxof256
 
-PARTS = ["argument_tests", "hall_tests", "header_tests", "import_tests", "limit_tests", "migration_tests", "place_tests", "seal_tests", "state_tests"]
+PARTS = ["argument_tests", "hall_tests", "header_tests", "import_tests", "limit_tests", "migration_tests", "place_tests", "state_tests"]
 SAMPLES = Path(__file__).resolve().parent.parent / "vectors" / "nist-samples.txt"
 KEYED = {"KMAC256": kmac256, "KMACXOF256": kmacxof256}
 

@@ -16,7 +16,7 @@ MODULUS = 2**32 - 5
 SECTIONS = (hash_cases, seal_cases, session_cases, generator_cases)
 STDIN = Path(__file__).resolve().parent.parent / "crates/call_cases/stdin"
 BLOCK = 393_216  # the program's buffer
-SIZE = {2: 21, 4: 45}  # a case's bytes, by how many strings it has
+SIZE = {2: 21, 4: 41}  # a case's bytes, by how many strings it has
 
 
 class Block:
@@ -26,12 +26,12 @@ class Block:
         self.cases, self.strings = [], strings
 
     def words(self, case, places):
-        """A word and the strings of a case; of four strings, two words more."""
-        letter, out, tag, edition, strings = case
+        """A word and the strings of a case; of four strings, a word more."""
+        letter, out, tag, strings = case
         words = [out]
         for held, length in strings + [(b"", 0)] * (self.strings - len(strings)):
             words += [places[held], length]
-        words += [tag, edition] if self.strings == 4 else []
+        words += [tag] if self.strings == 4 else []
         return letter.encode() + in_words(words)
 
     def made(self):
@@ -60,11 +60,11 @@ class Cases:
         self.output = {family: [] for family in self.blocks}
         self.total = 0
 
-    def put(self, family, letter, out=0, tag=0, edition=0, strings=(), behind=b""):
-        """A case: its letter, three words, and its strings, the last of which has `behind` after it."""
+    def put(self, family, letter, out=0, tag=0, strings=(), behind=b""):
+        """A case: its letter, two words, and its strings, the last of which has `behind` after it."""
         last = len(strings) - 1
         held = [(string + behind if i == last else string, len(string)) for i, string in enumerate(strings)]
-        self.blocks[family].cases.append((letter, out, tag, edition, held))
+        self.blocks[family].cases.append((letter, out, tag, held))
 
     def write(self, family, line):
         self.output[family].append(line + "\n")

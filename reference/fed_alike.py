@@ -1,16 +1,15 @@
-"""Demand 3 on many awkward arguments: calls fed alike had equal arguments that count, and so had seedings, of one generator or of both, and tags of either edition.
+"""Demand 3 on many awkward arguments: calls fed alike had equal arguments that count, and so had seedings, of one generator or of both.
 
     python3 reference/fed_alike.py
 
 Names, keys, customisations, messages and seeds are chosen so that a careless joining of fields would make two of them one. Each seeding is also held beside the
-call that it is made of, which has to be fed like it, and beside calls of KMAC256 with the same key, customisation and message, none of which may be. fed_tags.py has
-the tags. Prints how many calls, seedings and tags are fed differently, or each pair that is fed otherwise than it should be and exit status 1.
+call that it is made of, which has to be fed like it, and beside calls of KMAC256 with the same key, customisation and message, none of which may be. Prints how
+many calls and seedings are fed differently, or each pair that is fed otherwise than it should be and exit status 1.
 """
 
 import sys
 from itertools import product
 
-import fed_tags
 from generator import CSHAKE, KMAC, Generator, encode, fed_seed
 from sp800_185 import bytepad, encode_string, fed_cshake256, fed_kmac256, fed_kmacxof256, right_encode
 
@@ -81,14 +80,12 @@ def main():
     feeds = [*seedings("cSHAKE generator", CSHAKE), *seedings("KMAC generator", KMAC)]
     call_feeds, call_pairs = fed_alike(calls())
     seeding_feeds, seeding_pairs = fed_alike(feeds)
-    (first, second), wrong_tags = fed_tags.compared()
-    wrong = [f"fed alike: {one} {other}" for one, other in call_pairs + seeding_pairs] + list(beside_calls(feeds)) + wrong_tags
+    wrong = [f"fed alike: {one} {other}" for one, other in call_pairs + seeding_pairs] + list(beside_calls(feeds))
     for line in wrong:
         print(line)
     if wrong:
         return 1
     print(f"{call_feeds} calls and {seeding_feeds} seedings are fed differently, and each seeding like the call that it is made of")
-    print(f"{first} tags of edition 1, wherever their ciphertext ends, and {second} of edition 2 are fed differently")
     return 0
 
 

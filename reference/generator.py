@@ -6,7 +6,7 @@ They differ in the padded bytes of their two calls alone. Every step takes a gen
 from typing import Callable, NamedTuple
 
 from fips202 import sponge
-from refusals import OUTPUT_LIMIT, SEED_LIMIT, SHORT_LIMIT, first_of
+from refusals import OUTPUT_LIMIT, SEED_LIMIT, SHORT_LIMIT, smallest
 from sp800_185 import fed_cshake256, fed_kmacxof256, runs
 
 KEY_LENGTH = 64  # 512 bits (1.1.3, 1.2.3)
@@ -50,7 +50,7 @@ def fed_seed(generator, seed_bytes, personalisation):
 
 def seed(generator, seed_bytes, personalisation):
     """1.1.3, 1.2.3: (number, runs, generator); numbers 3 and 5. An empty seed counts as a seeding."""
-    number = first_of((3, len(personalisation) > SHORT_LIMIT), (5, len(seed_bytes) > SEED_LIMIT))
+    number = smallest((3, len(personalisation) > SHORT_LIMIT), (5, len(seed_bytes) > SEED_LIMIT))
     if number:
         return number, 0, generator
     fed = fed_seed(generator, seed_bytes, personalisation)
@@ -67,7 +67,7 @@ def generate(kind, key, additional):
 
 def draw(generator, additional, length):
     """1.1.5, 1.2.5: (number, runs, output or None, generator); numbers 1, 3 and 6. The last piece is cut."""
-    number = first_of(
+    number = smallest(
         (1, not generator.seeded),
         (3, len(additional) > SHORT_LIMIT),
         (6, length > OUTPUT_LIMIT),

@@ -5,7 +5,7 @@ is 9 for a malformed plan, and else 0.
 """
 
 from plan import BYTES_AFTER, CUT, EMPTY_GROUP, GOES_ON, LARGEST, Breach, judged, read_number, written_number
-from refusals import PLAN_LIMIT, first_of
+from refusals import PLAN_LIMIT, smallest
 
 LEVELS = 8  # of halls, at most, the outermost included
 CHUTES = 4_096  # in a hall plan, at most
@@ -156,12 +156,12 @@ def written(outer, kinds, values):
 def length(outer, kinds, values):
     """(number, bytes that the plan takes, place): 5 for one that could not be read again."""
     plan = written(outer, kinds, values)
-    number = 9 if plan is None else first_of((5, len(plan) > PLAN_LIMIT))
+    number = 9 if plan is None else smallest((5, len(plan) > PLAN_LIMIT))
     return number, 0 if number else len(plan), 0
 
 
 def write(outer, kinds, values, lent):
     """(number, plan or None, place): 5 for a lent buffer of too many bytes, 9 if a rule is broken or the plan does not fill it exactly."""
     plan = written(outer, kinds, values)
-    number = first_of((5, lent > PLAN_LIMIT), (9, plan is None or len(plan) != lent))
+    number = smallest((5, lent > PLAN_LIMIT), (9, plan is None or len(plan) != lent))
     return number, None if number else plan, 0

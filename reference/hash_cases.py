@@ -61,7 +61,7 @@ def call(letter, named, custom, message, size):
 
 def shown(cases, letter, named, custom, message, size):
     """A call that is written out: number, runs, and the lent bytes."""
-    cases.put("single", letter, size, strings=(named, custom, message))
+    cases.put("single", letter, size, 0, (named, custom, message))
     number, runs, output = call(letter, named, custom, message, size)
     cases.answer("single", number, runs, b"\xa5" * size if number else output)
     return runs
@@ -72,7 +72,7 @@ def samples(cases):
     for name, (letter, named, custom, message) in PUBLISHED.items():
         cases.heading("single", name)
         size = len(outputs[name])
-        cases.put("single", letter, size, strings=(named, custom, message))
+        cases.put("single", letter, size, 0, (named, custom, message))
         cases.answer("single", 0, call(letter, named, custom, message, size)[1], outputs[name])
 
 
@@ -93,7 +93,7 @@ def group(cases, letter, i):
         for k in range((i + 2 * j) % 3, len(LENGTHS), 3):
             size = OUTPUTS[(i + j + k) % len(OUTPUTS)]
             strings = (NAMED[: LENGTHS[i]], CUSTOM[:custom], MESSAGE[: LENGTHS[k]])
-            cases.put("single", letter, size, strings=strings)
+            cases.put("single", letter, size, 0, strings)
             number, runs, output = call(letter, *strings, size)
             written = output if number == 0 else b""
             cases.add((number, runs))

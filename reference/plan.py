@@ -8,7 +8,7 @@ As a program it reads a plan on standard input and writes its report.
 import sys
 from typing import NamedTuple, Optional
 
-from refusals import PLAN_LIMIT, first_of
+from refusals import PLAN_LIMIT, smallest
 
 GROUPS = 3  # of seven bits in a number, at most
 ROWS = 4_096  # in a plan, at most
@@ -124,10 +124,10 @@ def destination(plan, chute):
 def row(site, house, chute):
     """(number, source, offset, length, malformed, place): the row's bytes in the plan that it came from, and the first malformed plan.
 
-    Source and malformed are "site", "house" or None. The first number in the order counts, so a plan that is too long hides the other's breach.
+    Source and malformed are "site", "house" or None. The smallest number counts, so a plan that is too long hides the other's breach.
     """
     both = {"site": reading(site), "house": reading(house)}
-    number = first_of(*((found.number, found.number != 0) for found in both.values()))
+    number = smallest(*((found.number, found.number != 0) for found in both.values()))
     if number == 9:
         malformed = next(which for which, found in both.items() if found.breach)
         return 9, None, 0, 0, malformed, both[malformed].place

@@ -3,9 +3,9 @@
     python3 reference/refusal_table.py
 
 Each entry's arguments are given with the number that each value calls for, 0 for a good one; the
-answer must be the smallest of them, 12 coming after 7 and before 8, and a refusal must be blank but
-for the place of a malformed plan, which is the first malformed one's where two are lent. Prints
-`N calls agree`, or each difference and exit status 1.
+answer must be the smallest of them, and a refusal must be blank but for the place of a malformed
+plan, which is the first malformed one's where two are lent. Prints `N calls agree`, or each
+difference and exit status 1.
 """
 
 import sys
@@ -33,11 +33,8 @@ SHORT = [(b"", 0), (bytes(84), 0), (bytes(85), 3)]
 LABEL = [(b"", 0), (b"x", 0), (bytes(LIMIT - 3), 5)]  # beside a text of 4 bytes
 TEXT_OUTPUT = [(4, 0), (3, 6), (5, 6)]
 TAG_LENGTH = [(16, 0), (64, 0), (0, 7), (15, 7), (65, 7)]
-EDITIONS = (1, 2)
-UNKNOWN = [(edition, 12) for edition in (0, 3, 257, 65_537, 2**32 + 1, 2**32 + 2, 2**64 - 1)]
-EDITION = [*((edition, 0) for edition in EDITIONS), *UNKNOWN]
-SEALED = sealing.seal(1, bytes(32), b"", b"text", b"label", 4, 64)[2]
-SEALED_TAGS = {edition: sealing.seal(edition, bytes(32), b"", b"text", b"label", 4, 64)[3] for edition in EDITIONS}
+SEALED, SEALED_TAG = sealing.seal(bytes(32), b"", b"text", b"label", 4, 64)[2:]
+TAG = [(SEALED_TAG, 0), (SEALED_TAG[:16], 0), (SEALED_TAG[:15], 7), (b"", 7), (bytes(65), 7), (bytes(16), 8)]
 OPEN_LABEL = [(b"label", 0), (b"other", 8), (OVER, 5)]
 GENERATORS = {"cSHAKE generator": generator.CSHAKE, "KMAC generator": generator.KMAC}
 GOOD_PLAN, LONG_PLAN = bytes.fromhex("0307AC0200"), bytes(65_537)
@@ -67,21 +64,14 @@ def written(destination, length):
     return plan.write([destination, 7], length)
 
 
-def opened(edition, key, label, tag, out_length):
+def opened(key, label, tag, out_length):
     """Opening what stands in SEALED."""
-    return sealing.open_sealed(edition, key, b"", SEALED, label, tag, out_length)
+    return sealing.open_sealed(key, b"", SEALED, label, tag, out_length)
 
 
-def sealed(edition, key, iv, label, out_length, tag_length):
+def sealed(key, iv, label, out_length, tag_length):
     """Sealing a text of 4 bytes."""
-    return sealing.seal(edition, key, iv, b"text", label, out_length, tag_length)
-
-
-def opening(edition):
-    """The entry of opening in one edition or an unknown one, as below; the other's tag does not match."""
-    tag, others = SEALED_TAGS[edition], [SEALED_TAGS[other] for other in EDITIONS if other != edition]
-    tags = [(tag, 0), (tag[:16], 0), (tag[:15], 7), (b"", 7), (bytes(65), 7), (bytes(16), 8), *((other, 8) for other in others)]
-    return opened, (0, None), [[(edition, 0), *UNKNOWN], SEALING_KEY, OPEN_LABEL, tags, TEXT_OUTPUT]
+    return sealing.seal(key, iv, b"text", label, out_length, tag_length)
 
 
 def empty_halls_length(count, more):
@@ -119,8 +109,8 @@ ONE_SHOT = {
     "cSHAKE256": (cshake256, (0, None), [MESSAGE, OUTPUT, NAME, STRING]),
     "KMAC256": (kmac256, (0, None), [KMAC_KEY, MESSAGE, [(1, 0), (0, 6), (LIMIT + 1, 6)], STRING]),
     "KMACXOF256": (kmacxof256, (0, None), [KMAC_KEY, MESSAGE, OUTPUT, STRING]),
-    "seal": (sealed, (0, None, None), [EDITION, SEALING_KEY, STRING, LABEL, TEXT_OUTPUT, TAG_LENGTH]),
-    **{f"open, edition {edition}": opening(edition) for edition in EDITIONS},
+    "seal": (sealed, (0, None, None), [SEALING_KEY, STRING, LABEL, TEXT_OUTPUT, TAG_LENGTH]),
+    "open": (opened, (0, None), [SEALING_KEY, OPEN_LABEL, TAG, TEXT_OUTPUT]),
 }
 STATES = {
     **{name: entry for title, kind in GENERATORS.items() for name, entry in generator_entries(title, kind).items()},
@@ -154,11 +144,6 @@ HALLS = {
 }
 
 
-def judged(number):
-    """Where a number stands in the order: by its size, but 12 after 7 and before 8."""
-    return 7.5 if number == 12 else number
-
-
 def complaint(expected, answer, blank):
     """What is wrong with an answer, None if nothing is."""
     if answer[0] != expected:
@@ -171,7 +156,7 @@ def wrong_calls(title, call, blank, arguments):
     mixes, wrong = list(product(*arguments)), []
     for mix in mixes:
         numbers = [number for _, number in mix]
-        expected, values = min(filter(None, numbers), key=judged, default=0), [value for value, _ in mix]
+        expected, values = min(filter(None, numbers), default=0), [value for value, _ in mix]
         found = complaint(expected, call(*values), blank(expected, values) if callable(blank) else blank)
         if found:
             wrong.append(f"{title}, arguments that call for {numbers}: {found}")

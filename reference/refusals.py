@@ -1,7 +1,5 @@
 """docs/RULES.md, "Numbers": the limits, and which number is given."""
 
-ORDER = (1, 2, 3, 4, 5, 6, 7, 12, 8, 9, 10)  # in which the numbers are judged
-
 STRING_LIMIT = 4_096  # a KMAC key, a name, a customisation, an IV (numbers 2 and 3)
 SHORT_LIMIT = 84  # an additional input, a personalisation (number 3)
 RESERVED_NAME = b"KMAC"  # the standard's own function (number 4)
@@ -12,6 +10,6 @@ OUTPUT_LIMIT = 16_777_216  # an output, a session's total, a draw (number 6)
 TAG_LENGTHS = range(16, 65)  # lengths of a tag (number 7)
 
 
-def first_of(*rows):
-    """The first number in the order whose condition holds, 0 if none does; each row is (number, condition)."""
-    return min((number for number, holds in rows if holds), key=ORDER.index, default=0)
+def smallest(*rows):
+    """The smallest number whose condition holds, 0 if none does; each row is (number, condition)."""
+    return min((number for number, holds in rows if holds), default=0)

@@ -1,27 +1,24 @@
-"""KMAC AEAD, 1.2: the KMAC AEAD, as docs/RULES.md, "Sealing", reads it, in both editions.
+"""KMAC AEAD, 1.2: the KMAC AEAD, as docs/RULES.md, "Sealing", reads it.
 
 `text` is the caller's text: plaintext in sealing, ciphertext in opening. `out_length` and
 `tag_length` are the lengths of the lent output and tag. Label means the additional authenticated data.
-`edition` is the number by which the caller names the edition; the two differ in the tag alone.
 """
 
 from fips202 import sponge
-from refusals import MESSAGE_LIMIT, STRING_LIMIT, TAG_LENGTHS, first_of
-from sp800_185 import fed_kmacxof256, right_encode, runs
+from refusals import MESSAGE_LIMIT, STRING_LIMIT, TAG_LENGTHS, smallest
+from sp800_185 import fed_kmacxof256, runs
 
 KEY_LENGTH = 32  # of the caller's key and of the authentication key (1.2.2: 256 bits)
-EDITIONS = (1, 2)
 
 
-def refusal(edition, key, iv, text, label, out_length, tag_length):
-    """The number of the checks that sealing and opening share: of the lengths, 2, 3, 5, 6 and 7, and then 12 of the edition."""
-    return first_of(
+def refusal(key, iv, text, label, out_length, tag_length):
+    """The number of the length checks, which sealing and opening share: 2, 3, 5, 6 and 7."""
+    return smallest(
         (2, len(key) != KEY_LENGTH),
         (3, len(iv) > STRING_LIMIT),
         (5, len(text) + len(label) > MESSAGE_LIMIT),
         (6, out_length != len(text)),
         (7, tag_length not in TAG_LENGTHS),
-        (12, edition not in EDITIONS),
     )
 
 
@@ -34,37 +31,29 @@ def crypt(key, iv, text):
     return combined, key_stream[:KEY_LENGTH], runs(fed, length)
 
 
-def fed_tag(edition, auth_key, label, ciphertext):
-    """The padded bytes of a tag; the ciphertext stands before the label, and in edition 2 the lengths of both in bits after it."""
-    if edition == 1:
-        return fed_kmacxof256(auth_key, ciphertext + label, b"")
-    lengths = right_encode(8 * len(ciphertext)) + right_encode(8 * len(label))
-    return fed_kmacxof256(auth_key, ciphertext + label + lengths, b"plan seal 2")
-
-
-def auth(edition, auth_key, label, ciphertext, tag_length):
-    """1.2.3, KMAC-Auth: (tag, runs)."""
-    fed = fed_tag(edition, auth_key, label, ciphertext)
+def auth(auth_key, label, ciphertext, tag_length):
+    """1.2.3, KMAC-Auth: (tag, runs); the ciphertext stands before the label."""
+    fed = fed_kmacxof256(auth_key, ciphertext + label, b"")
     return sponge(fed, tag_length), runs(fed, tag_length)
 
 
-def seal(edition, key, iv, text, label, out_length, tag_length):
+def seal(key, iv, text, label, out_length, tag_length):
     """1.2.4, KMAC-Encrypt: (number, runs, ciphertext or None, tag or None)."""
-    number = refusal(edition, key, iv, text, label, out_length, tag_length)
+    number = refusal(key, iv, text, label, out_length, tag_length)
     if number:
         return number, 0, None, None
     ciphertext, auth_key, crypt_runs = crypt(key, iv, text)
-    tag, auth_runs = auth(edition, auth_key, label, ciphertext, tag_length)
+    tag, auth_runs = auth(auth_key, label, ciphertext, tag_length)
     return 0, crypt_runs + auth_runs, ciphertext, tag
 
 
-def open_sealed(edition, key, iv, text, label, tag, out_length):
-    """1.2.5, KMAC-Decrypt: (number, runs, plaintext or None); 8, after every other number, if the tag does not match."""
-    number = refusal(edition, key, iv, text, label, out_length, len(tag))
+def open_sealed(key, iv, text, label, tag, out_length):
+    """1.2.5, KMAC-Decrypt: (number, runs, plaintext or None); 8 if the tag does not match."""
+    number = refusal(key, iv, text, label, out_length, len(tag))
     if number:
         return number, 0, None
     plaintext, auth_key, crypt_runs = crypt(key, iv, text)
-    new_tag, auth_runs = auth(edition, auth_key, label, text, len(tag))
+    new_tag, auth_runs = auth(auth_key, label, text, len(tag))
     if new_tag != tag:
         return 8, 0, None
     return 0, crypt_runs + auth_runs, plaintext

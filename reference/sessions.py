@@ -9,7 +9,7 @@ from functools import partial
 from typing import Callable, NamedTuple, Optional
 
 from fips202 import sponge
-from refusals import MESSAGE_LIMIT, OUTPUT_LIMIT, RESERVED_NAME, STRING_LIMIT, first_of
+from refusals import MESSAGE_LIMIT, OUTPUT_LIMIT, RESERVED_NAME, STRING_LIMIT, smallest
 from sp800_185 import fed_cshake256, fed_kmacxof256
 
 
@@ -28,7 +28,7 @@ NOT_STARTED = Session(fed=None, giving=True)
 
 def start_cshake256(name, custom):
     """(number, session) for cSHAKE256; numbers 3 and 4."""
-    number = first_of(
+    number = smallest(
         (3, len(name) > STRING_LIMIT or len(custom) > STRING_LIMIT),
         (4, name == RESERVED_NAME),
     )
@@ -37,7 +37,7 @@ def start_cshake256(name, custom):
 
 def start_kmacxof256(key, custom):
     """(number, session) for KMACXOF256; numbers 2 and 3."""
-    number = first_of((2, len(key) > STRING_LIMIT), (3, len(custom) > STRING_LIMIT))
+    number = smallest((2, len(key) > STRING_LIMIT), (3, len(custom) > STRING_LIMIT))
     fed = partial(fed_kmacxof256, key, custom=custom)
     return number, NOT_STARTED if number else Session(fed)
 
@@ -45,7 +45,7 @@ def start_kmacxof256(key, custom):
 def take(session, piece):
     """(number, session): 1 from a giving session even for an empty piece, 5 for the total with this piece."""
     message = session.message + piece
-    number = first_of((1, session.giving), (5, len(message) > MESSAGE_LIMIT))
+    number = smallest((1, session.giving), (5, len(message) > MESSAGE_LIMIT))
     return number, session if number else session._replace(message=message)
 
 
@@ -55,7 +55,7 @@ def give(session, length):
     The first accepted ask, even for 0 bytes, turns the session to giving for good.
     """
     total = session.given + length
-    number = first_of((6, total > OUTPUT_LIMIT or (session.fed is None and length > 0)))
+    number = smallest((6, total > OUTPUT_LIMIT or (session.fed is None and length > 0)))
     if number:
         return number, None, session
     return 0, next_bytes(session, length), session._replace(giving=True, given=total)

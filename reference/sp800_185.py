@@ -4,7 +4,7 @@ The three calls answer (number, runs, output) by docs/RULES.md: output None and 
 """
 
 from fips202 import RATE, padded, sponge
-from refusals import MESSAGE_LIMIT, OUTPUT_LIMIT, RESERVED_NAME, STRING_LIMIT, first_of
+from refusals import MESSAGE_LIMIT, OUTPUT_LIMIT, RESERVED_NAME, STRING_LIMIT, smallest
 
 
 def big_endian(x):
@@ -75,7 +75,7 @@ def refused(number):
 
 def cshake256(message, length, name, custom):
     """3.3: cSHAKE256(X, L, N, S), L in bytes."""
-    number = first_of(
+    number = smallest(
         (3, len(name) > STRING_LIMIT or len(custom) > STRING_LIMIT),
         (4, name == RESERVED_NAME),
         (5, len(message) > MESSAGE_LIMIT),
@@ -86,7 +86,7 @@ def cshake256(message, length, name, custom):
 
 def kmac256(key, message, length, custom):
     """4.3: KMAC256(K, X, L, S), L in bytes; an empty output is refused."""
-    number = first_of(
+    number = smallest(
         (2, len(key) > STRING_LIMIT),
         (3, len(custom) > STRING_LIMIT),
         (5, len(message) > MESSAGE_LIMIT),
@@ -97,7 +97,7 @@ def kmac256(key, message, length, custom):
 
 def kmacxof256(key, message, length, custom):
     """4.3.1: KMACXOF256(K, X, L, S), L in bytes."""
-    number = first_of(
+    number = smallest(
         (2, len(key) > STRING_LIMIT),
         (3, len(custom) > STRING_LIMIT),
         (5, len(message) > MESSAGE_LIMIT),

@@ -4,8 +4,8 @@ and the KMAC generator, chute plans and hall plans (the submodules `plan` and `h
 A call that the library refuses raises Refusal, a ValueError with the number and its words, and for a malformed plan the byte. Bytes may be bytes,
 a bytearray or a memoryview; none may be changed by another thread while a call reads it.
 
->>> sealed = seal(bytes(range(32)), b"IV 1", plan.write([7, 300, 0]), label=b"depot 7", edition=Edition.TWO)
->>> opened = open_sealed(bytes(range(32)), b"IV 1", sealed.ciphertext, sealed.tag, label=b"depot 7", edition=Edition.TWO)
+>>> sealed = seal(bytes(range(32)), b"IV 1", plan.write([7, 300, 0]), label=b"depot 7")
+>>> opened = open_sealed(bytes(range(32)), b"IV 1", sealed.ciphertext, sealed.tag, label=b"depot 7")
 >>> plan.destination(opened, 2)
 300
 
@@ -19,11 +19,10 @@ from .generator import Generator, KmacGenerator
 from .hashes import cshake256, keccak_p, kmac256, kmacxof256
 from .lending import Output
 from .refusal import Refusal
-from .sealing import Edition, Sealed, open_sealed, seal
+from .sealing import Sealed, open_sealed, seal
 from .sessions import Session
 
 __all__ = [
-    "Edition",
     "Generator",
     "KmacGenerator",
     "Output",

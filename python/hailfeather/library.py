@@ -8,7 +8,7 @@ BYTES = POINTER(c_uint8)
 LENT = [BYTES, c_size_t]  # a pointer to bytes, followed by their number
 DESTINATIONS = [POINTER(c_uint32), c_size_t]
 HALLS = [*LENT, POINTER(c_uint32), c_size_t]  # kinds and values
-VERSION = 400  # HF_VERSION of include/hailfeather.h, 0.4.0
+VERSION = 300  # HF_VERSION of include/hailfeather.h, 0.3.0
 
 FUNCTIONS = {
     "hf_version": (c_uint32, []),
@@ -20,8 +20,8 @@ FUNCTIONS = {
     "hf_session_kmacxof256": (structs.Step, LENT * 2),
     "hf_session_take": (structs.Step, [structs.SessionState, *LENT]),
     "hf_session_give": (structs.Step, [structs.SessionState, *LENT]),
-    "hf_seal": (structs.Outcome, [c_uint64, *LENT * 6]),
-    "hf_open": (structs.Outcome, [c_uint64, *LENT * 6]),
+    "hf_seal": (structs.Outcome, LENT * 6),
+    "hf_open": (structs.Outcome, LENT * 6),
     "hf_generator_fresh": (structs.GeneratorState, []),
     "hf_generator_seed": (structs.Draw, [structs.GeneratorState, *LENT * 2]),
     "hf_generator_draw": (structs.Draw, [structs.GeneratorState, *LENT * 2]),

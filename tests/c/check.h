@@ -40,7 +40,6 @@ void check_samples(const char *vectors);
 void check_hashes(void);
 void check_sessions(void);
 void check_seals(void);
-void check_editions(void);
 void check_generators(void);
 void check_plans(void);
 void check_migration(void);

@@ -53,7 +53,6 @@ int main(int count, char **words) {
     check_sessions();
     report("sessions");
     check_seals();
-    check_editions();
     report("sealing and opening");
     check_generators();
     report("the generators");

@@ -27,6 +27,12 @@ refuses open 8 open --key-file key --iv 'depot 7' --label 'plan 1' --tag-length 
 refuses open 8 open --key-file key --iv 'depot 7' --label 'plan 1' --tag-length 33 sealed
 fails 65 'too few' open --key-file key --iv 'depot 7' --label 'plan 1' --tag-length 64 sealed
 
+# the tag covers ciphertext and label joined: the end of the ciphertext can be given as the beginning of the label
+{ head -c 3 sealed; tail -c 32 sealed; } >shorter
+head -c 3 plan >want
+gives want open --key-file key --iv 'depot 7' --label-file <(head -c 5 sealed | tail -c 2; printf 'plan 1') shorter
+refuses open 8 open --key-file key --iv 'depot 7' --label 'plan 1' shorter
+
 # the tag in a file of its own
 head -c 5 sealed >want.text
 tail -c 32 sealed >want.tag

@@ -68,8 +68,8 @@ plan migrate:plan_migrated_length=5 plan_migrated_length=9
 hall report:hall_read=5 hall_read=9
 hall lookup:hall_destination=5 hall_destination=9 hall_destination=10
 hall write:hall_length=5 hall_length=9
-seal:seal=2 seal=3 seal=5 seal=7 seal=12
-open:open=2 open=3 open=5 open=7 open=8 open=12
+seal:seal=2 seal=3 seal=5 seal=7
+open:open=2 open=3 open=5 open=7 open=8
 cshake:session_cshake256=3 session_cshake256=4 take=5 give=6
 kmac:kmac256=2 kmac256=3 kmac256=5 kmac256=6 take=5 give=6
 draw:seed=3 seed=5 draw=3 draw=6
@@ -87,11 +87,5 @@ that 'plan migrate --help does not tell that hall plans are not migrated' grep -
 
 for command in seal open; do
   run $command --help
-  that "$command --help does not tell what the tag covers" grep -q 'covers ciphertext and label joined, not the place where .*, in edition 2 that place too' out
-  that "$command --help does not tell which edition is the usual" grep -q 'the edition of the seal, 1 or 2; 2 if it is left out' out
+  that "$command --help does not tell what the tag covers" grep -q 'covers ciphertext and label joined, not the place where' out
 done
-that 'open --help does not tell of old seals' grep -q '^What was sealed before version 0.4.0 is of edition 1. No file has its edition in it' out
-run seal --help
-that 'seal --help does not tell that no file has its edition in it' grep -q 'IV, label and edition are not in it' out
-run --help
-that '--help does not have the status 12' grep -q '^ *2 to 10, 12  refused by the library' out

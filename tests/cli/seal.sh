@@ -1,19 +1,18 @@
 # Sealing and opening: answers of the reference, forms of every option, refusals, and both sides of the limits. Sourced by tests/cli/run.
 # shellcheck shell=bash disable=SC2154,SC2086,SC2094,SC2103,SC2164
 
-# seal and open in both editions, beside the reference, with texts around the blocks' ends, and every length of tag at the limits
+# seal and open, beside the reference, with texts around the blocks' ends, and every length of tag at the limits
 for length in 0 1 5 104 105 136 1000; do
-  reference "put(bytes(7 * i % 256 for i in range($length)))" >text
-  for edition_tag in 1:{16,32,64} 2:{16,32,64}; do
-    edition=${edition_tag%:*} tag=${edition_tag#*:}
-    reference "text = open('text', 'rb').read(); put(b''.join(sealing.seal($edition, key, b'depot 7', text, b'plan 1', $length, $tag)[2:]))" >want
-    gives want seal --edition $edition --key-file key --iv 'depot 7' --label 'plan 1' --tag-length $tag text
-    gives text open --edition $edition --key-file key --iv 'depot 7' --label 'plan 1' --tag-length $tag want
+  for tag in 16 32 64; do
+    reference "put(bytes(7 * i % 256 for i in range($length)))" >text
+    reference "text = open('text', 'rb').read(); put(b''.join(sealing.seal(key, b'depot 7', text, b'plan 1', $length, $tag)[2:]))" >want
+    gives want seal --key-file key --iv 'depot 7' --label 'plan 1' --tag-length $tag text
+    gives text open --key-file key --iv 'depot 7' --label 'plan 1' --tag-length $tag want
   done
 done
 
 # from files and standard input, to files and standard output; without a label; with an empty IV
-reference "put(b''.join(sealing.seal(2, key, b'', plan, b'', 5, 32)[2:]))" >sealed
+reference "put(b''.join(sealing.seal(key, b'', plan, b'', 5, 32)[2:]))" >sealed
 gives sealed seal --key-file key --iv '' plan
 gives sealed seal --key-file key --iv= <plan
 gives sealed seal --key-file - --iv= --label '' plan <key
@@ -25,7 +24,7 @@ gives plan open --key-file key --iv= - <sealed
 gives plan open --key-file - --iv= --tag-length 32 sealed <key
 
 # every form of key, IV and label
-reference "put(b''.join(sealing.seal(2, key, b'\x00iv\xff', plan, b'\x80label\n', 5, 32)[2:]))" >sealed
+reference "put(b''.join(sealing.seal(key, b'\x00iv\xff', plan, b'\x80label\n', 5, 32)[2:]))" >sealed
 printf '\0iv\377' >iv
 printf '\200label\n' >label
 sed 's/..../ &\r\n\t/g; s/.*/  &/' key.hex | tr a-f A-F >spaced.hex
@@ -68,7 +67,7 @@ fails 64 'pairs' seal --key-file key --iv x --label-hex xy plan
 # 3: an IV of 4,096 and 4,097 bytes
 bytes 4096 >iv
 bytes 4097 >long
-reference "put(b''.join(sealing.seal(2, key, bytes(4096), plan, b'', 5, 32)[2:]))" >sealed
+reference "put(b''.join(sealing.seal(key, bytes(4096), plan, b'', 5, 32)[2:]))" >sealed
 gives sealed seal --key-file key --iv-file iv plan
 gives plan open --key-file key --iv-hex "$(printf '00%.0s' {1..4096})" sealed
 refuses seal 3 seal --key-file key --iv-file long plan
@@ -82,8 +81,7 @@ gives /dev/null seal --key-file key --iv x text -o longest
 that 'the longest sealed file has a wrong length' test "$(stat -c %s longest)" = $((most + 32))
 makes made text open --key-file key --iv x longest -o made
 reference "put(kmacxof256(key, b'', 32, b'x')[2])" >auth.key
-{ head -c $most longest; printf '\010\0\0\0\004\0\001'; } | # the lengths in bits are 08000000 and 00, each with the number of its bytes after it
-  openssl mac -macopt hexkey:"$(od -An -v -tx1 auth.key | tr -d ' \n')" -macopt custom:'plan seal 2' -macopt xof:1 -macopt size:32 KMAC256 |
+head -c $most longest | openssl mac -macopt hexkey:"$(od -An -v -tx1 auth.key | tr -d ' \n')" -macopt xof:1 -macopt size:32 KMAC256 |
   tr -d '\n' | tr A-F a-f >want
 that "the longest text's tag is not OpenSSL's" test "$(tail -c 32 longest | od -An -v -tx1 | tr -d ' \n')" = "$(cat want)"
 refuses seal 5 seal --key-file key --iv x --label y text
@@ -105,7 +103,7 @@ for length in x -1 '' 3.5; do
   fails 64 'decimal digits' seal --key-file key --iv x --tag-length="$length" plan
 done
 
-# the first of several
+# the smallest number of several
 refuses seal 2 seal --key-file plan --iv-file long --tag-length 15 </dev/zero
 refuses seal 3 seal --key-file key --iv-file long --tag-length 15 </dev/zero
 refuses seal 5 seal --key-file key --iv x --tag-length 15 </dev/zero

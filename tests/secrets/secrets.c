@@ -71,26 +71,20 @@ static void sessions(size_t n)
 }
 
 /* Opening branches once on the verdict, and only where the lengths are right. */
-static void seals(uint64_t edition, size_t n, size_t t)
+static void seals(size_t n, size_t t)
 {
     secrets();
-    noted("hf_seal", 0, hf_seal(edition, key, 32, label, n % 84, text, n, label, n % 84, made, n, tag, t).number, HF_DONE);
-    noted("hf_open", 1, hf_open(edition, key, 32, label, n % 84, made, n, label, n % 84, given, n, tag, t).number, HF_DONE);
+    noted("hf_seal", 0, hf_seal(key, 32, label, n % 84, text, n, label, n % 84, made, n, tag, t).number, HF_DONE);
+    noted("hf_open", 1, hf_open(key, 32, label, n % 84, made, n, label, n % 84, given, n, tag, t).number, HF_DONE);
     known();
     for (size_t place = 0; place < t; place += t - 1) { /* the first byte wrong, then the last */
         tag[place] ^= 0x40;
         secrets();
         SECRET(tag);
-        noted("hf_open", 1, hf_open(edition, key, 32, label, n % 84, made, n, label, n % 84, given, n, tag, t).number, HF_TAG_MISMATCH);
+        noted("hf_open", 1, hf_open(key, 32, label, n % 84, made, n, label, n % 84, given, n, tag, t).number, HF_TAG_MISMATCH);
         known();
         tag[place] ^= 0x40;
     }
-    /* an unknown edition is refused before anything secret is looked at */
-    secrets();
-    SECRET(tag);
-    noted("hf_seal", 0, hf_seal(edition + 2, key, 32, label, n % 84, text, n, label, n % 84, made, n, tag, t).number, HF_UNKNOWN_EDITION);
-    noted("hf_open", 0, hf_open(edition + 2, key, 32, label, n % 84, made, n, label, n % 84, given, n, tag, t).number, HF_UNKNOWN_EDITION);
-    known();
 }
 
 static void generator(const either_generator *of, const char *seeding, const char *drawing, size_t n)
@@ -114,10 +108,8 @@ int main(int count, char **words)
         generator(&cshake_generator, "hf_generator_seed", "hf_generator_draw", lengths[i]);
         generator(&kmac_generator, "hf_kmac_generator_seed", "hf_kmac_generator_draw", lengths[i]);
         known();
-        for (size_t j = 0; j < TAGS; j++) {
-            seals(HF_EDITION_1, lengths[i], tags[j]);
-            seals(HF_EDITION_2, lengths[i], tags[j]);
-        }
+        for (size_t j = 0; j < TAGS; j++)
+            seals(lengths[i], tags[j]);
     }
     if (count == 2 && strcmp(words[1], "spoilt") == 0) {
         secrets();

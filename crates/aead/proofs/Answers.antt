@@ -9,7 +9,7 @@ use Rattle.answers.specs.Numbers.{done, tag_mismatch}
 use Rattle.answers.specs.Done.{if_done, first_number, outcome_of}
 use Rattle.calls.specs.Start.{same_bytes}
 use Rattle.aead.specs.Aead.{SealArguments, Construction, combined_text, tag_of, seal_runs}
-use Rattle.aead.specs.Refusals.{seal_refusal, uncompared_refusal, open_refusal}
+use Rattle.aead.specs.Refusals.{seal_refusal, open_lengths_refusal, open_refusal}
 use Rattle.aead.specs.Answers.{sealed, sealed_text, sealed_tag, Seals, opened, opened_text, OpensInto}
 
 -- number and runs
@@ -54,13 +54,13 @@ module _ (c : Construction) (a : SealArguments) (before tag : List ℕ) where
         text = is ∙ ap (λ (n : ℕ). if_done n (combined_text c a) before) e;
       }
 
-  pub open_refused : (k : ℕ) → k ≡ uncompared_refusal c a (length before) (length tag) → (k ≡ 0 → ⊥) → OpensInto c a before tag (answer k 0) before
+  pub open_refused : (k : ℕ) → k ≡ open_lengths_refusal c a (length before) (length tag) → (k ≡ 0 → ⊥) → OpensInto c a before tag (answer k 0) before
   unfolding open_refusal
   open_refused zero e some = absurd (some refl)
   open_refused (suc k) e some =
       open_answered (suc k) 0 before (ap (λ (n : ℕ). first_number n (cond (same_bytes tag expected) done tag_mismatch)) e) refl refl
 
-  module _ (e : 0 ≡ uncompared_refusal c a (length before) (length tag)) where
+  module _ (e : 0 ≡ open_lengths_refusal c a (length before) (length tag)) where
     compared : (b : Bool) → b ≡ same_bytes tag expected → cond b done tag_mismatch ≡ open_refusal c a (length before) tag
     unfolding open_refusal
     compared b h =

@@ -16,11 +16,10 @@ use Rattle.byte_strings.specs.Combined.{combined}
 use Rattle.byte_strings.proofs.Combining.{length_combined, combined_twice}
 use Rattle.aead.specs.Limits.{authentication_key_length, longest_tag}
 use Rattle.aead.specs.Aead.{SealArguments, Construction, Lawful, authentication_key, text_stream, combined_text, tag_of, seal_runs}
-use Rattle.aead.specs.Refusals.{lengths_refusal, seal_lengths_refusal, seal_refusal, open_lengths_refusal, uncompared_refusal, open_refusal}
+use Rattle.aead.specs.Refusals.{lengths_refusal, seal_refusal, open_lengths_refusal, open_refusal}
 use Rattle.aead.specs.Answers.{sealed, sealed_text, sealed_tag, opened, opened_text}
 use Rattle.aead.specs.RoundTrip.{SealsWithinLimits, with_text, AcceptsExactly, OpensWhatWasSealed, CutTagsOpen}
 use Rattle.aead.proofs.Refusals.{lengths_accepted, lengths_within}
-use Rattle.aead.proofs.Known.{is_known, both_passed}
 
 -- ---- sealing is done exactly within the limits
 
@@ -30,11 +29,8 @@ seals_within_limits c a n t =
     let k : ℕ = length a.key in
     let i : ℕ = length a.iv in
     let x : ℕ = length a.text in
-    let l : ℕ = length a.label in (
-      λ e. let r = first_number-passed (seal_lengths_refusal c a n t) _ e in
-          (is_known c r.1, lengths_accepted c.least_sealed k i x l n t r.0),
-      λ w. both_passed c (lengths_within c.least_sealed k i x l n t c.least_sealed t w.1 w.1.least_tag w.1.long_tag) w.0,
-    )
+    let l : ℕ = length a.label in
+    (lengths_accepted c.least_sealed k i x l n t, λ w. lengths_within c.least_sealed k i x l n t c.least_sealed t w w.least_tag w.long_tag)
 
 -- ---- opening is done exactly for the tag that is worked out afresh
 
@@ -53,7 +49,7 @@ module _ (c : Construction) (a : SealArguments) (n : ℕ) (tag : List ℕ) where
   abbrev expected : List ℕ
   expected = tag_of c a a.text (length tag)
 
-  module _ (e : uncompared_refusal c a n (length tag) ≡ 0) where
+  module _ (e : open_lengths_refusal c a n (length tag) ≡ 0) where
     past_lengths : open_refusal c a n tag ≡ cond (same_bytes tag expected) done tag_mismatch
     unfolding open_refusal
     past_lengths = ap (λ (k : ℕ). first_number k (cond (same_bytes tag expected) done tag_mismatch)) e
@@ -67,17 +63,16 @@ module _ (c : Construction) (a : SealArguments) (n : ℕ) (tag : List ℕ) where
     mismatched : (tag ≡ expected → ⊥) → open_refusal c a n tag ≡ tag_mismatch
     mismatched other = past_lengths ∙ ap (λ (b : Bool). cond b done tag_mismatch) (differ tag expected other)
 
-  fresh : open_refusal c a n tag ≡ 0 → (uncompared_refusal c a n (length tag) ≡ 0) × (tag ≡ expected)
+  fresh : open_refusal c a n tag ≡ 0 → (open_lengths_refusal c a n (length tag) ≡ 0) × (tag ≡ expected)
   unfolding open_refusal
   fresh e =
-      let r = first_number-passed (uncompared_refusal c a n (length tag)) _ e in
+      let r = first_number-passed (open_lengths_refusal c a n (length tag)) _ e in
       (r.0, same_bytes-equal tag expected (passed (same_bytes tag expected) r.1))
 
 pub accepts_exactly : (c : Construction) → AcceptsExactly c
 unfolding opened opened_text
-accepts_exactly c a before tag known lengths =
+accepts_exactly c a before tag e =
     let n : ℕ = length before in
-    let e : uncompared_refusal c a n (length tag) ≡ 0 = both_passed c lengths known in
     record {
       exactly = ((λ h. (fresh c a n tag h).1), accepted c a n tag e);
       mismatch = λ other.
@@ -134,14 +129,13 @@ module _ (c : Construction) (h : Lawful c) (a : SealArguments) where
 
     pub opens_again : (n m : ℕ) → seal_refusal c a n t ≡ 0 → m ≡ n → open_refusal c sealed_arguments m (tag_of c a ciphertext t) ≡ 0
     opens_again n m e same =
-        let r = first_number-passed (seal_lengths_refusal c a n t) _ e in
-        let w = lengths_accepted c.least_sealed (length a.key) (length a.iv) (length a.text) (length a.label) n t r.0 in
+        let w = lengths_accepted c.least_sealed (length a.key) (length a.iv) (length a.text) (length a.label) n t e in
         let low : c.least_opened ≤ t = omega (arith, h.least_tags, w.least_tag) in
         let lengths : open_lengths_refusal c sealed_arguments m (length (tag_of c a ciphertext t)) ≡ 0
         = (λ i. lengths_refusal c.least_opened (length a.key) (length a.iv) (same_length i) (length a.label) (same i) (tag_length_lem i))
         ∙ lengths_within c.least_sealed (length a.key) (length a.iv) (length a.text) (length a.label) n t c.least_opened t w low
         w.long_tag in
-        accepted c sealed_arguments m (tag_of c a ciphertext t) (both_passed c lengths (is_known c r.1)) same_tag
+        accepted c sealed_arguments m (tag_of c a ciphertext t) lengths same_tag
 
 pub opens_what_was_sealed : (c : Construction) → Lawful c → OpensWhatWasSealed c
 unfolding sealed opened opened_text sealed_text sealed_tag
@@ -163,8 +157,7 @@ unfolding opened opened_text tag_of
 cut_tags_open c h a before tag m e low high =
     let n : ℕ = length before in
     let o = fresh c a n tag e in
-    let u = first_number-passed (open_lengths_refusal c a n (length tag)) _ o.0 in
-    let w = lengths_accepted c.least_opened (length a.key) (length a.iv) (length a.text) (length a.label) n (length tag) u.0 in
+    let w = lengths_accepted c.least_opened (length a.key) (length a.iv) (length a.text) (length a.label) n (length tag) o.0 in
     let k : length (take m tag) ≡ m = length-take-le m tag high in
     let cut : take m tag ≡ tag_of c a a.text m = ap (take m) o.1 ∙ h.tag_cut (authentication_key c a) a.text a.label m (length tag) high in
     let short : m ≤ longest_tag = omega (arith, w.long_tag) in
@@ -172,5 +165,5 @@ cut_tags_open c h a before tag m e low high =
     = lengths_within c.least_opened (length a.key) (length a.iv) (length a.text) (length a.label) n (length tag) c.least_opened m w low
     short in
     let ok : open_refusal c a n (take m tag) ≡ 0
-    = accepted c a n (take m tag) (both_passed c (ap (open_lengths_refusal c a n) k ∙ lengths) (is_known c u.1)) (cut ∙ ap (tag_of c a a.text) (sym k)) in
+    = accepted c a n (take m tag) (ap (open_lengths_refusal c a n) k ∙ lengths) (cut ∙ ap (tag_of c a a.text) (sym k)) in
     (ok, ap (λ (j : ℕ). if_done j (combined_text c a) before) (ok ∙ sym e))

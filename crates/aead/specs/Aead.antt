@@ -1,5 +1,5 @@
 -- Sealing by a key stream and a tag, whatever makes the two (KMAC AEAD, 1.2.2 to 1.2.5; docs/RULES.md, 'Sealing').
-use Rattle.std.specs.Prelude.{◌≡◌, Bool, List, ℕ, ◌+◌, ◌≤◌, length, take, drop}
+use Rattle.std.specs.Prelude.{◌≡◌, List, ℕ, ◌+◌, ◌≤◌, length, take, drop}
 use Rattle.byte_strings.specs.Combined.{combined}
 use Rattle.aead.specs.Limits.{authentication_key_length}
 
@@ -24,8 +24,6 @@ pub record Construction : Type 0 where
   -- the shortest tags that sealing makes and that opening takes
   pub least_sealed : ℕ
   pub least_opened : ℕ
-  -- whether there is what the caller named: a seal that has editions is a construction for each number, of which few are editions
-  pub known : Bool
 
 -- what is asked of it: lengths are as asked, a shorter tag is the beginning of a longer one, and what is sealed can be opened
 pub record Lawful (c : Construction) : Type 0 where

@@ -1,6 +1,6 @@
 -- What sealing and opening are refused for (docs/RULES.md, 'Numbers').
 use Rattle.std.specs.Prelude.{◌≡◌, cond, not, ◌||◌, List, ℕ, ◌+◌, ◌≤◌, eqb, ltb, length}
-use Rattle.answers.specs.Numbers.{done, bad_key_length, string_too_long, input_too_long, bad_output_length, bad_tag_length, tag_mismatch, unknown_edition}
+use Rattle.answers.specs.Numbers.{done, bad_key_length, string_too_long, input_too_long, bad_output_length, bad_tag_length, tag_mismatch}
 use Rattle.answers.specs.Done.{first_number}
 use Rattle.calls.specs.Limits.{max_customisation, max_message}
 use Rattle.calls.specs.Start.{same_bytes}
@@ -29,25 +29,14 @@ pub record WithinLimits (least k i x l o t : ℕ) : Type 0 where
 abbrev pub refusal_by : (least : ℕ) → SealArguments → (n t : ℕ) → ℕ
 refusal_by least a n t = lengths_refusal least (length a.key) (length a.iv) (length a.text) (length a.label) n t
 
--- 12, which comes after the lengths' numbers and before the tag's
-abbrev pub unknown_refusal : Construction → ℕ
-unknown_refusal c = cond c.known done unknown_edition
-
 module _ (c : Construction) (a : SealArguments) where
-  abbrev pub seal_lengths_refusal : (n t : ℕ) → ℕ
-  seal_lengths_refusal n t = refusal_by c.least_sealed a n t
-
   abbrev pub seal_refusal : (n t : ℕ) → ℕ
-  seal_refusal n t = first_number (seal_lengths_refusal n t) (unknown_refusal c)
+  seal_refusal n t = refusal_by c.least_sealed a n t
 
   abbrev pub open_lengths_refusal : (n t : ℕ) → ℕ
   open_lengths_refusal n t = refusal_by c.least_opened a n t
 
-  -- what opening is refused for before the tag is compared
-  abbrev pub uncompared_refusal : (n t : ℕ) → ℕ
-  uncompared_refusal n t = first_number (open_lengths_refusal n t) (unknown_refusal c)
-
   -- and then a tag that is not the one worked out afresh, over its whole length
   unfoldable pub open_refusal : ℕ → (tag : List ℕ) → ℕ
   open_refusal n tag =
-      first_number (uncompared_refusal n (length tag)) (cond (same_bytes tag (tag_of c a a.text (length tag))) done tag_mismatch)
+      first_number (open_lengths_refusal n (length tag)) (cond (same_bytes tag (tag_of c a a.text (length tag))) done tag_mismatch)

@@ -1,8 +1,8 @@
 -- What is asked of sealing and opening, over what they answer and leave in the lent memory. proofs/RoundTrip.antt proves it of every lawful construction.
-use Rattle.std.specs.Prelude.{◌≡◌, ◌↔◌, true, false, List, ℕ, ◌≤◌, length, take}
-use Rattle.answers.specs.Numbers.{done, tag_mismatch, unknown_edition}
+use Rattle.std.specs.Prelude.{◌≡◌, ◌↔◌, List, ℕ, ◌≤◌, length, take}
+use Rattle.answers.specs.Numbers.{done, tag_mismatch}
 use Rattle.aead.specs.Aead.{SealArguments, seal_arguments, Construction, tag_of}
-use Rattle.aead.specs.Refusals.{WithinLimits, seal_lengths_refusal, open_lengths_refusal}
+use Rattle.aead.specs.Refusals.{WithinLimits, open_lengths_refusal}
 use Rattle.aead.specs.Answers.{sealed, sealed_text, sealed_tag, opened, opened_text}
 
 -- the same key, IV and label with another text
@@ -10,24 +10,13 @@ abbrev pub with_text : SealArguments → List ℕ → SealArguments
 with_text a text = seal_arguments a.key a.iv text a.label
 
 module _ (c : Construction) where
-  -- sealing is done exactly if there is what the caller named and the lengths keep the limits
+  -- sealing is done exactly if the lengths keep the limits
   abbrev pub SealsWithinLimits : Type 0
   SealsWithinLimits =
       (a : SealArguments) (n t : ℕ)
-      → ((sealed c a n t).number ≡ done)
-      ↔ ((c.known ≡ true) × WithinLimits c.least_sealed (length a.key) (length a.iv) (length a.text) (length a.label) n t)
+      → ((sealed c a n t).number ≡ done) ↔ WithinLimits c.least_sealed (length a.key) (length a.iv) (length a.text) (length a.label) n t
 
-  -- once the length checks are passed, sealing and opening are refused with 12 exactly if there is not what the caller named, whatever the tag
-  pub record Unknown (a : SealArguments) : Type 0 where
-    pub sealing : (n t : ℕ) → seal_lengths_refusal c a n t ≡ done → ((sealed c a n t).number ≡ unknown_edition) ↔ (c.known ≡ false)
-    pub opening : (n : ℕ) (tag : List ℕ) → open_lengths_refusal c a n (length tag) ≡ done
-        → ((opened c a n tag).number ≡ unknown_edition) ↔ (c.known ≡ false)
-
-  abbrev pub RefusesUnknown : Type 0
-  RefusesUnknown = (a : SealArguments) → Unknown a
-
-  -- where there is what the caller named, opening is then done exactly if the tag equals the one worked out afresh; any other is a mismatch, and nothing
-  -- is written
+  -- once the length checks are passed, opening is done exactly if the tag equals the one worked out afresh; any other is a mismatch, and nothing is written
   pub record Accepts (a : SealArguments) (before tag : List ℕ) : Type 0 where
     pub exactly : ((opened c a (length before) tag).number ≡ done) ↔ (tag ≡ tag_of c a a.text (length tag))
     pub mismatch : (tag ≡ tag_of c a a.text (length tag) → ⊥)
@@ -35,7 +24,7 @@ module _ (c : Construction) where
 
   abbrev pub AcceptsExactly : Type 0
   AcceptsExactly =
-      (a : SealArguments) (before tag : List ℕ) → c.known ≡ true → open_lengths_refusal c a (length before) (length tag) ≡ done → Accepts a before tag
+      (a : SealArguments) (before tag : List ℕ) → open_lengths_refusal c a (length before) (length tag) ≡ done → Accepts a before tag
 
   -- what an accepted sealing into `out` and `tag` left there, opened into `back`: done, in as many permutations, and the text is back
   pub record Opens (a : SealArguments) (out tag back : List ℕ) : Type 0 where

@@ -1,4 +1,4 @@
--- The numbers that a caller gets back (docs/RULES.md, 'Numbers'). The smallest that applies is given, but 12 comes after 7 and before 8.
+-- The numbers that a caller gets back (docs/RULES.md, 'Numbers'). The smallest that applies is given.
 use Rattle.std.specs.Prelude.{ℕ}
 
 abbrev pub done : ℕ
@@ -43,7 +43,3 @@ malformed_plan = 9
 -- the plan has no such chute
 abbrev pub no_such_chute : ℕ
 no_such_chute = 10
-
--- there is no such edition of the seal
-abbrev pub unknown_edition : ℕ
-unknown_edition = 12

@@ -1,5 +1,5 @@
 // What an entry answers with: a number of the refusal table (docs/RULES.md, 'Numbers'), and for the calls that are counted the permutations they took.
-// The numbers are those of specs/Numbers.antt. A call gives the first that applies, in the order that is said there.
+// The numbers are those of specs/Numbers.antt. A call gives the smallest that applies.
 
 ghost use Rattle.std.specs.Prelude.{◌≡◌, ◌+◌};
 ghost use Rattle.answers.specs.Done.{first_number, over};
@@ -36,9 +36,6 @@ pub const MALFORMED_PLAN: u8 = 9;
 
 // The plan has no such chute.
 pub const NO_SUCH_CHUTE: u8 = 10;
-
-// There is no such edition of the seal.
-pub const UNKNOWN_EDITION: u8 = 12;
 
 // The place that an answer on plans tells where nothing that was read is malformed, as specs/Breaches.antt has it.
 pub const NO_PLACE: usize = 0;

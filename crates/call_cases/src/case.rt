@@ -6,10 +6,10 @@ pub const FROM: usize = 4;
 // A letter, a word and two strings of two words.
 pub const SHORT: usize = 21;
 
-// Two strings and two words more.
-pub const LONG: usize = 45;
+// Two strings and a word more.
+pub const LONG: usize = 41;
 
-// Where the strings and the two words stand.
+// Where the strings and the second word stand.
 pub const FIRST: usize = 5;
 
 pub const SECOND: usize = 13;
@@ -19,8 +19,6 @@ pub const THIRD: usize = 21;
 pub const FOURTH: usize = 29;
 
 const TAG: usize = 37;
-
-const EDITION: usize = 41;
 
 // The word at a place.
 pub fn word(bytes: &[u8], at: usize) -> usize {
@@ -35,11 +33,6 @@ pub fn output(case: &[u8]) -> usize {
 // The second word: the length of a lent tag.
 pub fn tag(case: &[u8]) -> usize {
     word(case, TAG)
-}
-
-// The third word: the edition of a seal.
-pub fn edition(case: &[u8]) -> u64 {
-    word(case, EDITION) as u64
 }
 
 // The string that two words of a case name.

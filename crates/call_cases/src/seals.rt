@@ -1,5 +1,5 @@
-// Sealing and opening, in the edition that the third word names. l seals, and opens what its buffers then hold; o opens, its tag standing after the label, as
-// many bytes as the second word says: both take the answers into the checksum. O writes what o is answered. Strings: key, IV, text and label.
+// Sealing and opening. l seals, and opens what its buffers then hold; o opens, its tag standing after the label, as many bytes as the second word says: both
+// take the answers into the checksum. O writes what o is answered. Strings: key, IV, text and label.
 use crate::case;
 use answers::Outcome;
 
@@ -42,7 +42,6 @@ fn sealed_into(input: &[u8], it: &[u8], sum: u64, out: &mut [u8], tag: &mut [u8]
         return sum;
     }
     let outcome = seal::seal(
-        case::edition(it),
         case::string(input, it, case::FIRST),
         case::string(input, it, case::SECOND),
         case::string(input, it, case::THIRD),
@@ -71,7 +70,6 @@ fn opened_into(
         return sum;
     }
     let outcome = open::open(
-        case::edition(it),
         case::string(input, it, case::FIRST),
         case::string(input, it, case::SECOND),
         ciphertext,

@@ -1,5 +1,5 @@
--- Of calls it is the law of `calls`, of tags that of `editions`; a seeding's fed bytes fix its generator, key, seed and personalisation. KMAC256 is told from
--- KMACXOF256, of which the KMAC generator is made, as `calls` tells them: by the number that ends the message.
+-- Of the calls it is the law of `calls`; a seeding's fed bytes fix its generator, key, seed and personalisation. KMAC256 is told from KMACXOF256, of which
+-- the KMAC generator is made, as `calls` tells them: by the number that ends the message.
 use mathlib.Core.Path.{◌≡◌}
 use Prim.Native.Nat.{ℕ}
 use native.Mathlib.Omega.{arith}
@@ -8,7 +8,6 @@ use Rattle.calls.proofs.FedAlike.{function_of-xof, function_of-input, alike_func
 use Rattle.seeding.specs.declared.Drng.TheVariants.{Cshake, Kmac}
 use Rattle.seeding.specs.Seeding.{key_bytes, kmac_seed_customisation, seed_message, seed_call}
 use Rattle.seeding.specs.Laws.{seeding_fixes, seed_call-accepted}
-use Rattle.editions.proofs.TagsFedAlike.{tags_fed_alike}
 use Rattle.demand3.specs.Demand3.{Demand3}
 
 generators_differ : Cshake ≡ Kmac → ⊥
@@ -30,5 +29,4 @@ demand3 =
           λ s c accepted alike.
           functions_differ
           (alike_function (seed_call Kmac s) c (function_of-xof s.key (seed_message s) key_bytes kmac_seed_customisation) (function_of-input c accepted) alike);
-      tags = tags_fed_alike;
     }

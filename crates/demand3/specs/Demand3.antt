@@ -1,11 +1,10 @@
--- Demand 3, whole: which calls, which seedings and which tags of seals are fed alike (docs/RULES.md, 'Fed alike'). proofs/Demand3.antt proves it.
+-- Demand 3, whole: which calls and which seedings are fed alike (docs/RULES.md, 'Fed alike'). proofs/Demand3.antt proves it.
 use Rattle.std.specs.Prelude.{◌≡◌, ◌↔◌, length}
 use Rattle.calls.specs.Call.{KMAC256, Call, Accepted}
 use Rattle.calls.specs.FedAlike.{FedAlike, FedAlikeExactly}
 use Rattle.seeding.specs.declared.Drng.{Drng}
 use Rattle.seeding.specs.declared.Drng.TheVariants.{Cshake, Kmac}
 use Rattle.seeding.specs.Seeding.{Seeding, key_bytes, seed_call, SeedingAccepted}
-use Rattle.editions.specs.TagsFedAlike.{TagsFedAlike}
 
 pub record Demand3 : Type 0 where
   -- two accepted calls, of one function or of two, are fed alike exactly when the arguments that count are equal
@@ -19,5 +18,3 @@ pub record Demand3 : Type 0 where
   pub seeding_calls : (d : Drng) (s : Seeding) → length s.key ≡ key_bytes → SeedingAccepted s → Accepted (seed_call d s)
   -- so a seeding of the KMAC generator and an accepted KMAC256 call never are fed alike; it holds of every seeding, accepted or not
   pub kmac_seedings : (s : Seeding) (c : Call KMAC256) → Accepted c → FedAlike (seed_call Kmac s) c → ⊥
-  -- tags of edition 2 exactly when they had equal authentication key, ciphertext and label, and one of each edition never; of strings of every length
-  pub tags : TagsFedAlike

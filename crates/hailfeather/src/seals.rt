@@ -1,4 +1,4 @@
-// Sealing and opening. The edition is as wide as the widest of C's standard integers, so that none of these wraps to a good one.
+// Sealing and opening.
 ghost use Rattle.aead.specs.Aead.{seal_arguments};
 ghost use Rattle.aead.specs.Answers.{Seals, OpensInto};
 ghost use Rattle.seal.specs.Kmac.{kmac_aead};
@@ -7,7 +7,6 @@ use answers::Outcome;
 
 #[unsafe(no_mangle)]
 pub extern "C" fn hf_seal(
-    edition: u64,
     key: &[u8],
     iv: &[u8],
     text: &[u8],
@@ -15,15 +14,14 @@ pub extern "C" fn hf_seal(
     out: &mut [u8],
     tag: &mut [u8],
 ) -> Outcome
-    ensures { Seals (kmac_aead edition) (seal_arguments key.now iv.now text.now label.now)
+    ensures { Seals kmac_aead (seal_arguments key.now iv.now text.now label.now)
         out.old tag.old result out.new tag.new }
 {
-    seal::seal(edition, key, iv, text, label, out, tag)
+    seal::seal(key, iv, text, label, out, tag)
 }
 
 #[unsafe(no_mangle)]
 pub extern "C" fn hf_open(
-    edition: u64,
     key: &[u8],
     iv: &[u8],
     ciphertext: &[u8],
@@ -31,8 +29,8 @@ pub extern "C" fn hf_open(
     out: &mut [u8],
     tag: &[u8],
 ) -> Outcome
-    ensures { OpensInto (kmac_aead edition) (seal_arguments key.now iv.now ciphertext.now label.now)
+    ensures { OpensInto kmac_aead (seal_arguments key.now iv.now ciphertext.now label.now)
         out.old tag.now result out.new }
 {
-    open::open(edition, key, iv, ciphertext, label, out, tag)
+    open::open(key, iv, ciphertext, label, out, tag)
 }

@@ -13,40 +13,38 @@ use Rattle.sponge.specs.Running.{running, squeezed}
 use Rattle.byte_strings.specs.Combined.{combined}
 use Rattle.aead.specs.Limits.{authentication_key_length, least_tag, longest_tag}
 use Rattle.aead.specs.Aead.{SealArguments, authentication_key, tag_of, seal_runs}
-use Rattle.aead.specs.Refusals.{uncompared_refusal}
+use Rattle.aead.specs.Refusals.{open_lengths_refusal}
 use Rattle.aead.specs.Answers.{OpensInto}
 use Rattle.aead.proofs.Answers.{answer, open_accepted}
-use Rattle.editions.specs.declared.Edition.{Edition}
-use Rattle.editions.specs.Edition.{edition_of, tag_call}
-use Rattle.seal_stream.specs.declared.Stream.{Stream}
-use Rattle.seal.specs.Kmac.{kmac_aead}
+use Rattle.seal_calls.specs.declared.Stream.{Stream}
+use Rattle.seal.specs.Kmac.{tag_call, kmac_aead}
 use Rattle.seal.proofs.Lawful.{kmac_lawful}
 use Rattle.seal.proofs.StreamAndTag.{Streams, Tags}
 use Rattle.seal.proofs.Steps.{text_is, tag_is, runs_are}
 
 -- the longest tag takes no more permutations than a shorter one
-runs_cut : (e : Edition) (k x l : List ℕ) (t : ℕ) → least_tag ≤ t → t ≤ longest_tag → runs (tag_call e k x l longest_tag) ≡ runs (tag_call e k x l t)
-runs_cut e k x l t low high = omega (arith, runs_by_lengths (tag_call e k x l longest_tag), runs_by_lengths (tag_call e k x l t))
+runs_cut : (k x l : List ℕ) (t : ℕ) → least_tag ≤ t → t ≤ longest_tag → runs (tag_call k x l longest_tag) ≡ runs (tag_call k x l t)
+runs_cut k x l t low high = omega (arith, runs_by_lengths (tag_call k x l longest_tag), runs_by_lengths (tag_call k x l t))
 
 -- a stream begun for the ciphertext, and the tag over it worked out afresh
-module _ (edition : ℕ) (a : SealArguments) (st : Stream) (h : Streams edition a.key a.iv (length a.text) st) (tag made : List ℕ) (r : ℕ)
-    (g : Tags edition st.authentication a.text a.label made longest_tag r) (high : length tag ≤ longest_tag) where
-  pub compares : (b : Bool) → b ≡ same_bytes tag (take (length tag) made) → b ≡ same_bytes tag (tag_of (kmac_aead edition) a a.text (length tag))
+module _ (a : SealArguments) (st : Stream) (h : Streams a.key a.iv (length a.text) st) (tag made : List ℕ) (r : ℕ)
+    (g : Tags st.authentication a.text a.label made longest_tag r) (high : length tag ≤ longest_tag) where
+  pub compares : (b : Bool) → b ≡ same_bytes tag (take (length tag) made) → b ≡ same_bytes tag (tag_of kmac_aead a a.text (length tag))
   unfolding tag_of
   compares b hb =
       hb
       ∙ ap (same_bytes tag)
-      (ap (take (length tag)) (tag_is edition a st h a.text a.text made longest_tag r g refl)
-      ∙ (kmac_lawful edition).tag_cut (authentication_key (kmac_aead edition) a) a.text a.label (length tag) longest_tag high)
+      (ap (take (length tag)) (tag_is a st h a.text a.text made longest_tag r g refl)
+      ∙ kmac_lawful.tag_cut (authentication_key kmac_aead a) a.text a.label (length tag) longest_tag high)
 
-  pub opens : (before out : List ℕ) → 0 ≡ uncompared_refusal (kmac_aead edition) a (length before) (length tag) → length before ≡ length a.text
+  pub opens : (before out : List ℕ) → 0 ≡ open_lengths_refusal kmac_aead a (length before) (length tag) → length before ≡ length a.text
       → least_tag ≤ length tag → out ≡ combined a.text (squeezed (length before) (running st.lanes authentication_key_length))
-      → true ≡ same_bytes tag (tag_of (kmac_aead edition) a a.text (length tag)) → OpensInto (kmac_aead edition) a before tag (answer 0 (st.runs + r)) out
+      → true ≡ same_bytes tag (tag_of kmac_aead a a.text (length tag)) → OpensInto kmac_aead a before tag (answer 0 (st.runs + r)) out
   unfolding seal_runs
   opens before out e hm low ho same =
       let x : List ℕ = a.text in
-      let cut = runs_cut (edition_of edition) (authentication_key (kmac_aead edition) a) x a.label (length tag) low high in
-      let counted : st.runs + r ≡ seal_runs (kmac_aead edition) a x (length tag)
-      = runs_are edition a st h x x made longest_tag r g refl
-      ∙ ap (λ (k : ℕ). (kmac_aead edition).stream_runs a.key a.iv (authentication_key_length + length x) + k) cut in
-      open_accepted (kmac_aead edition) a before tag e (st.runs + r) out same counted (text_is edition a st h (length before) out hm ho)
+      let cut = runs_cut (authentication_key kmac_aead a) x a.label (length tag) low high in
+      let counted : st.runs + r ≡ seal_runs kmac_aead a x (length tag)
+      = runs_are a st h x x made longest_tag r g refl
+      ∙ ap (λ (k : ℕ). kmac_aead.stream_runs a.key a.iv (authentication_key_length + length x) + k) cut in
+      open_accepted kmac_aead a before tag e (st.runs + r) out same counted (text_is a st h (length before) out hm ho)

@@ -4,18 +4,15 @@ ghost use Rattle.aead.specs.Answers.{OpensInto};
 ghost use Rattle.seal.specs.Kmac.{kmac_aead};
 
 use aead::{LEAST_TAG, LONGEST_TAG, lengths_refusal};
-use answers::{DONE, Outcome, TAG_MISMATCH, first_of};
+use answers::{DONE, Outcome, TAG_MISMATCH};
 use byte_strings::same_beginning;
-use editions::{edition_of, edition_refusal};
-use seal_stream::{begin_stream, combine_stream};
-use seal_tag::make_tag;
+use seal_calls::{begin_stream, combine_stream, make_tag};
 
 // The shortest tags that opening takes, as seal/specs/Kmac.antt has them.
 const LEAST_OPENED: usize = LEAST_TAG;
 
-// Opens `ciphertext`, sealed in an edition: the text into `out`, which is as long, if the tag is the one worked out afresh.
+// Opens `ciphertext`: the text into `out`, which is as long, if the tag is the one worked out afresh.
 pub fn open(
-    edition: u64,
     key: &[u8],
     iv: &[u8],
     ciphertext: &[u8],
@@ -23,10 +20,10 @@ pub fn open(
     out: &mut [u8],
     tag: &[u8],
 ) -> Outcome
-    ensures { OpensInto (kmac_aead edition) (seal_arguments key.now iv.now ciphertext.now label.now)
+    ensures { OpensInto kmac_aead (seal_arguments key.now iv.now ciphertext.now label.now)
         out.old tag.now result out.new }
 {
-    let lengths = lengths_refusal(
+    let number = lengths_refusal(
         LEAST_OPENED,
         key.len(),
         iv.len(),
@@ -35,21 +32,23 @@ pub fn open(
         out.len(),
         tag.len(),
     );
-    let number = first_of(lengths, edition_refusal(edition));
     if number != DONE {
         return Outcome { number, runs: 0 };
     }
     let stream = begin_stream(key, iv, ciphertext.len());
     let authentication = stream.authentication;
     let mut expected = [0u8; LONGEST_TAG];
-    let named = edition_of(edition);
-    let tag_runs = make_tag(named, &authentication, ciphertext, label, &mut expected);
+    let tag_runs = make_tag(&authentication, ciphertext, label, &mut expected);
     if same_beginning(tag, &expected) {
         let mut lanes = stream.lanes;
         combine_stream(&mut lanes, ciphertext, out);
-        let runs = stream.runs + tag_runs;
-        return Outcome { number, runs };
+        return Outcome {
+            number: DONE,
+            runs: stream.runs + tag_runs,
+        };
     }
-    let number = TAG_MISMATCH;
-    Outcome { number, runs: 0 }
+    Outcome {
+        number: TAG_MISMATCH,
+        runs: 0,
+    }
 }

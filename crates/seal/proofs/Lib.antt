@@ -1,5 +1,4 @@
 pub mod Lawful
 pub mod StreamAndTag
 pub mod Steps
-pub mod Facts
 pub mod RoundTrip

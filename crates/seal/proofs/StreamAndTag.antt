@@ -21,15 +21,8 @@ use Rattle.sponge.proofs.Whole.{squeezed_take, squeezed_drop}
 use Rattle.start.specs.Started.{started, most_blocks, Starts}
 use Rattle.start.proofs.Calls.{start_blocks_lem, call_output}
 use Rattle.aead.specs.Limits.{authentication_key_length, longest_tag}
-use Rattle.message.specs.Xof.{zero_code, xof_running, xof_runs}
-use Rattle.editions.specs.declared.Edition.{Edition}
-use Rattle.editions.specs.declared.Edition.TheVariants.{One, Two}
-use Rattle.editions.specs.Edition.{edition_of, tag_customisation, tag_message}
-use Rattle.editions.specs.Ending.{longest_ending}
-use Rattle.editions.specs.Laws.{message_parts, message_length_lem}
-use Rattle.seal_stream.specs.declared.Stream.{Stream}
-use Rattle.seal_stream.specs.KeyStream.{Begins}
-use Rattle.seal_tag.specs.Tag.{TagMade}
+use Rattle.seal_calls.specs.declared.Stream.{Stream}
+use Rattle.seal_calls.specs.SealCalls.{zero_code, xof_running, xof_runs, Begins, TagMade}
 use Rattle.seal.specs.Kmac.{kmac_aead}
 
 -- more permutations than inputs within the limits take: two counts can be added up
@@ -40,17 +33,16 @@ pub counts_fit : (r s : ℕ) → r ≤ runs_bound → s ≤ runs_bound → Fits 
 counts_fit r s hr hs = omega arith
 
 -- the key stream for a text of n bytes: its authentication key, and what the lanes give next
-pub record Streams (edition : ℕ) (key iv : List ℕ) (n : ℕ) (r : Stream) : Type 0 where
-  pub authentication : r.authentication ≡ take authentication_key_length ((kmac_aead edition).key_stream key iv (authentication_key_length + n))
-  pub text : squeezed n (running r.lanes authentication_key_length)
-      ≡ drop authentication_key_length ((kmac_aead edition).key_stream key iv (authentication_key_length + n))
-  pub runs : r.runs ≡ (kmac_aead edition).stream_runs key iv (authentication_key_length + n)
+pub record Streams (key iv : List ℕ) (n : ℕ) (r : Stream) : Type 0 where
+  pub authentication : r.authentication ≡ take authentication_key_length (kmac_aead.key_stream key iv (authentication_key_length + n))
+  pub text : squeezed n (running r.lanes authentication_key_length) ≡ drop authentication_key_length (kmac_aead.key_stream key iv (authentication_key_length + n))
+  pub runs : r.runs ≡ kmac_aead.stream_runs key iv (authentication_key_length + n)
   pub bounded : r.runs ≤ runs_bound
 
 -- the tag of n bytes over a ciphertext and a label, in r permutations
-pub record Tags (edition : ℕ) (authentication ciphertext label tag : List ℕ) (n r : ℕ) : Type 0 where
-  pub is : tag ≡ (kmac_aead edition).tag authentication ciphertext label n
-  pub runs : r ≡ (kmac_aead edition).tag_runs authentication ciphertext label n
+pub record Tags (authentication ciphertext label tag : List ℕ) (n r : ℕ) : Type 0 where
+  pub is : tag ≡ kmac_aead.tag authentication ciphertext label n
+  pub runs : r ≡ kmac_aead.tag_runs authentication ciphertext label n
   pub bounded : r ≤ runs_bound
 
 keyed_accepted : (K S : List ℕ) → length K ≤ max_key → length S ≤ max_customisation → start_refusal (keyed K S) ≡ 0
@@ -77,7 +69,7 @@ module _ (K S x : List ℕ) (ok : start_refusal (keyed K S) ≡ 0) (short : (sta
   xof_counted n =
       omega (arith, runs_by_lengths (kmacxof256 K x n S), start_blocks_lem (keyed K S) (started (keyed K S)) own ok, length-append x zero_code)
 
-  xof_bounded : (n : ℕ) → length x ≤ max_message + longest_ending → n ≤ authentication_key_length + max_message → xof_runs K S x n ≤ runs_bound
+  xof_bounded : (n : ℕ) → length x ≤ max_message → n ≤ authentication_key_length + max_message → xof_runs K S x n ≤ runs_bound
   unfolding xof_runs
   xof_bounded n hx hn = omega (arith, length-append x zero_code)
 
@@ -89,14 +81,14 @@ stands a =
     let e : after authentication_key_length (running a 0) ≡ running a authentication_key_length = after_in authentication_key_length a 0 (omega arith) in
     ap (λ (u : Running). running u.lanes authentication_key_length) e ∙ sym e
 
-pub streams : (edition : ℕ) (key iv : List ℕ) (n : ℕ) (r : Stream) → Begins key iv n r → length key ≤ max_key → length iv ≤ max_customisation → n ≤ max_message
-    → Streams edition key iv n r
+pub streams : (key iv : List ℕ) (n : ℕ) (r : Stream) → Begins key iv n r → length key ≤ max_key → length iv ≤ max_customisation → n ≤ max_message
+    → Streams key iv n r
 unfolding xof_running finished
-streams edition key iv n r b hk hs hn =
+streams key iv n r b hk hs hn =
     let ok = keyed_accepted key iv hk hs in
     let u : Running = xof_running key iv [] in
     let all : ℕ = authentication_key_length + n in
-    let whole : (kmac_aead edition).key_stream key iv all ≡ squeezed all u = sym (xof_output key iv [] ok b.bounded all) in
+    let whole : kmac_aead.key_stream key iv all ≡ squeezed all u = sym (xof_output key iv [] ok b.bounded all) in
     record {
       authentication =
           ap (λ (s : Stream). s.authentication) b.is
@@ -111,21 +103,13 @@ streams edition key iv n r b hk hs hn =
 
 -- ---- the tag
 
-customisation_short : (e : Edition) → length (tag_customisation e) ≤ max_customisation
-customisation_short One = omega arith
-customisation_short Two = omega arith
-
-pub tags : (edition : ℕ) (k x l made : List ℕ) (t r : ℕ) → TagMade (edition_of edition) k x l made t r → length k ≤ max_key
-    → length x + length l ≤ max_message → t ≤ longest_tag → Tags edition k x l made t r
-tags edition k x l made t r g hk hx ht =
-    let e = edition_of edition in
-    let z : List ℕ = tag_customisation e in
-    let m : List ℕ = tag_message e x l in
-    let ok = keyed_accepted k z hk (customisation_short e) in
-    let parts = message_parts x l hx e in
-    let counted : r ≡ xof_runs k z m t = g.runs ∙ ap (λ (y : List ℕ). xof_runs k z y t) parts in
+pub tags : (k x l made : List ℕ) (t r : ℕ) → TagMade k x l made t r → length k ≤ max_key → length x + length l ≤ max_message → t ≤ longest_tag
+    → Tags k x l made t r
+tags k x l made t r g hk hx ht =
+    let ok = keyed_accepted k [] hk (omega arith) in
+    let short : length (x ++ l) ≤ max_message = simp length-append hx in
     record {
-      is = g.is ∙ ap (λ (y : List ℕ). squeezed t (xof_running k z y)) parts ∙ xof_output k z m ok g.bounded t;
-      runs = counted ∙ xof_counted k z m ok g.bounded t;
-      bounded = omega (arith, counted, xof_bounded k z m ok g.bounded t (message_length_lem x l hx e) (omega arith));
+      is = g.is ∙ xof_output k [] (x ++ l) ok g.bounded t;
+      runs = g.runs ∙ xof_counted k [] (x ++ l) ok g.bounded t;
+      bounded = omega (arith, g.runs, xof_bounded k [] (x ++ l) ok g.bounded t short (omega arith));
     }

@@ -1,4 +1,3 @@
--- The construction; then facts by computation, and what is asked of it.
+-- The construction; then what is asked of it.
 pub mod Kmac
-pub mod Facts
 pub mod RoundTrip

@@ -4,17 +4,14 @@ ghost use Rattle.aead.specs.Answers.{Seals};
 ghost use Rattle.seal.specs.Kmac.{kmac_aead};
 
 use aead::{LEAST_TAG, lengths_refusal};
-use answers::{DONE, Outcome, first_of};
-use editions::{edition_of, edition_refusal};
-use seal_stream::{begin_stream, combine_stream};
-use seal_tag::make_tag;
+use answers::{DONE, Outcome};
+use seal_calls::{begin_stream, combine_stream, make_tag};
 
 // The shortest tags that sealing makes, as specs/Kmac.antt has them.
 const LEAST_SEALED: usize = LEAST_TAG;
 
-// Seals `text` in an edition: the ciphertext into `out`, which is as long, and the tag into `tag`.
+// Seals `text`: the ciphertext into `out`, which is as long, and the tag into `tag`.
 pub fn seal(
-    edition: u64,
     key: &[u8],
     iv: &[u8],
     text: &[u8],
@@ -22,10 +19,10 @@ pub fn seal(
     out: &mut [u8],
     tag: &mut [u8],
 ) -> Outcome
-    ensures { Seals (kmac_aead edition) (seal_arguments key.now iv.now text.now label.now)
+    ensures { Seals kmac_aead (seal_arguments key.now iv.now text.now label.now)
         out.old tag.old result out.new tag.new }
 {
-    let lengths = lengths_refusal(
+    let number = lengths_refusal(
         LEAST_SEALED,
         key.len(),
         iv.len(),
@@ -34,7 +31,6 @@ pub fn seal(
         out.len(),
         tag.len(),
     );
-    let number = first_of(lengths, edition_refusal(edition));
     if number != DONE {
         return Outcome { number, runs: 0 };
     }
@@ -42,7 +38,7 @@ pub fn seal(
     let mut lanes = stream.lanes;
     combine_stream(&mut lanes, text, out);
     let authentication = stream.authentication;
-    let runs = make_tag(edition_of(edition), &authentication, out, label, tag);
+    let runs = make_tag(&authentication, out, label, tag);
     Outcome {
         number: DONE,
         runs: stream.runs + runs,

@@ -2,8 +2,8 @@
 ghost use Rattle.std.specs.Prelude.{◌≡◌};
 ghost use Rattle.version.specs.Version.{version};
 
-// HF_VERSION of include/hailfeather.h: 0.4.0, two digits for each part.
-const VERSION: u32 = 400;
+// HF_VERSION of include/hailfeather.h: 0.3.0, two digits for each part.
+const VERSION: u32 = 300;
 
 pub fn version() -> u32
     ensures { result ≡ version }

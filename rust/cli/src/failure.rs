@@ -9,8 +9,6 @@ use std::io;
 pub enum Failure {
     /// The library's own refusal; its number is the exit status.
     Refused(Refusal),
-    /// The same, and what may be the matter.
-    Hinted(Refusal, &'static str),
     /// The command line cannot be understood.
     Usage(String),
     /// What was read breaks the rules for it: text that is not understood, or a tag of another length.
@@ -23,7 +21,7 @@ impl Failure {
     /// The exit status: the refusal's number, or that of sysexits.h.
     pub fn status(&self) -> u8 {
         match self {
-            Failure::Refused(refusal) | Failure::Hinted(refusal, _) => refusal.number(),
+            Failure::Refused(refusal) => refusal.number(),
             Failure::Usage(_) => 64,
             Failure::Malformed(_) => 65,
             Failure::File(..) => 74,
@@ -35,7 +33,6 @@ impl fmt::Display for Failure {
     fn fmt(&self, formatter: &mut fmt::Formatter<'_>) -> fmt::Result {
         match self {
             Failure::Refused(refusal) => refusal.fmt(formatter),
-            Failure::Hinted(refusal, hint) => write!(formatter, "{refusal}\nhailfeather: {hint}"),
             Failure::Usage(words) | Failure::Malformed(words) => write!(formatter, "hailfeather: {words}"),
             Failure::File(name, error) => write!(formatter, "hailfeather: {name}: {error}"),
         }

@@ -35,7 +35,7 @@ Timing: nothing is promised of how long a command takes; it may depend on secret
 
 Exit status:
      0  done
-     2 to 10, 12  refused by the library, with its number; nothing is written
+     2 to 10  refused by the library, with its number; nothing is written
     64  the command line is not understood
     65  a text that was read is malformed, or a file has no tag of the length that is asked for
     74  a file cannot be read or written

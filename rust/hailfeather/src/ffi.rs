@@ -6,9 +6,9 @@ mod plans;
 pub use plans::*;
 use std::mem::{offset_of, size_of};
 
-/// HF_VERSION of the header: 0.4.0.
+/// HF_VERSION of the header: 0.3.0.
 #[cfg(test)]
-pub const VERSION: u32 = 400;
+pub const VERSION: u32 = 300;
 
 #[repr(C)]
 pub struct hf_outcome {
@@ -101,7 +101,6 @@ extern "C" {
     pub fn hf_session_give(session: hf_session, out: *mut u8, out_length: usize) -> hf_step;
 
     pub fn hf_seal(
-        edition: u64,
         key: *const u8,
         key_length: usize,
         iv: *const u8,
@@ -116,7 +115,6 @@ extern "C" {
         tag_length: usize,
     ) -> hf_outcome;
     pub fn hf_open(
-        edition: u64,
         key: *const u8,
         key_length: usize,
         iv: *const u8,

@@ -11,7 +11,6 @@
 //! | To | choose | because |
 //! |---|---|---|
 //! | keep a text secret and notice changes | [`seal`] and [`open`] | opening writes nothing unless the tag matches |
-//! | the same for what was sealed before 0.4.0 | [`Edition::One`] | new seals are of [`Edition::Two`], whose tags cover where ciphertext and label are cut |
 //! | show that a message comes from a holder of the key | [`kmac256`] | the code's length is authenticated too: a shortened code does not pass |
 //! | make keys or a stream of one key | [`kmacxof256`] | it gives as many bytes as are asked for; the customisation tells the uses apart |
 //! | name data by a digest, without a key | [`cshake256`] | with a customisation, a digest made for one purpose serves no other |
@@ -27,7 +26,7 @@
 //! # Sealing a plan and opening it
 //!
 //! ```
-//! use hailfeather::{open, plan, seal, Edition, Generator, Refusal};
+//! use hailfeather::{open, plan, seal, Generator, Refusal};
 //!
 //! # let secret = [0x5A; 64]; // in earnest from the operating system
 //! let mut generator = Generator::new();
@@ -38,13 +37,13 @@
 //! let text = plan::to_vec(&[7, 300, 0])?;
 //! let mut ciphertext = vec![0; text.len()];
 //! let mut tag = [0; 32];
-//! seal(Edition::Two, &key, b"plan 1", &text, b"depot 7", &mut ciphertext, &mut tag)?; // never twice with one key and one IV
+//! seal(&key, b"plan 1", &text, b"depot 7", &mut ciphertext, &mut tag)?; // never twice with one key and one IV
 //!
 //! let mut opened = vec![0; ciphertext.len()];
-//! open(Edition::Two, &key, b"plan 1", &ciphertext, b"depot 7", &mut opened, &tag)?;
+//! open(&key, b"plan 1", &ciphertext, b"depot 7", &mut opened, &tag)?;
 //! assert_eq!(plan::destination(&opened, 2)?, 300);
 //!
-//! let refusal = open(Edition::Two, &key, b"plan 1", &ciphertext, b"depot 8", &mut opened, &tag).unwrap_err();
+//! let refusal = open(&key, b"plan 1", &ciphertext, b"depot 8", &mut opened, &tag).unwrap_err();
 //! assert_eq!(refusal.to_string(), "refused 8: the tag does not match");
 //! # Ok::<(), Refusal>(())
 //! ```
@@ -84,7 +83,6 @@
 //! `HAILFEATHER_ARCHIVE` to the path of a `libhailfeather.a` that was built before. The library is for x86-64.
 #![deny(missing_docs)]
 
-mod edition;
 mod ffi;
 mod generator;
 pub mod hall;
@@ -95,7 +93,6 @@ mod refusal;
 mod seal;
 mod session;
 
-pub use edition::Edition;
 pub use generator::{Generator, KmacGenerator};
 pub use hash::{cshake256, keccak_p, kmac256, kmacxof256};
 pub use refusal::{refusals, Reason, Refusal, Runs};

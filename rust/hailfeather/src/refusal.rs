@@ -66,11 +66,10 @@ impl Refusal {
     /// assert_eq!(plan::destination(&[0x01, 0x07], 2).unwrap_err().reason(), Reason::NoSuchChute);
     /// ```
     pub fn reason(self) -> Reason {
-        let named = REASONS.into_iter().find(|reason| *reason as u8 == self.number);
-        named.expect("every number of refusals.txt has a reason")
+        REASONS[usize::from(self.number) - 1]
     }
 
-    /// The refusal's number, 1 to 10 or 12. Where several apply the smallest is given, but 12 comes after 7 and before 8.
+    /// The refusal's number, 1 to 10. Where several apply, the smallest is given.
     ///
     /// ```
     /// let refusal = hailfeather::plan::rows(&[1, 0x80, 0x80, 0x80, 0]).unwrap_err();
@@ -122,7 +121,7 @@ impl Refusal {
     /// The refusal with this number of an entry, named as in refusals.txt.
     ///
     /// Panics where the file has no such line: then the archive is not the one that this package was written for.
-    pub(crate) fn of(entry: &str, number: u8) -> Refusal {
+    fn of(entry: &str, number: u8) -> Refusal {
         match refusals(entry).find(|refusal| refusal.number == number) {
             Some(refusal) => refusal,
             None => panic!(

@@ -3,7 +3,7 @@
 use hailfeather::hall::{self, Summary, CHUTE, HALL};
 use hailfeather::limits::{CHUTES, DESTINATION, LEVELS, MESSAGE, OUTPUT, PLAN, ROWS, SEALING_KEY, SEED, SHORT, STRING, TAG};
 use hailfeather::plan;
-use hailfeather::{cshake256, kmac256, kmacxof256, open, seal, Edition, Generator, KmacGenerator, Refusal, Session};
+use hailfeather::{cshake256, kmac256, kmacxof256, open, seal, Generator, KmacGenerator, Refusal, Session};
 
 /// The numbers that a call answers at the limit and one past it.
 fn sides<T>(limit: usize, call: impl Fn(&[u8]) -> Result<T, Refusal>) -> [u8; 2] {
@@ -23,12 +23,14 @@ fn names_customisations_keys_and_ivs() {
     assert_eq!(sides(STRING, |key| kmacxof256(key, b"", b"", &mut [0])), [0, 2]);
     assert_eq!(sides(STRING, |customisation| Session::cshake256(b"", customisation)), [0, 3]);
     assert_eq!(sides(STRING, |key| Session::kmacxof256(key, b"")), [0, 2]);
+    assert_eq!(sides(STRING, |iv| seal(&[0; 32], iv, b"", b"", &mut [], &mut [0; 16])), [0, 3]);
 }
 
 #[test]
 fn messages_and_outputs() {
     assert_eq!(sides(MESSAGE, |message| cshake256(b"", b"", message, &mut [0])), [0, 5]);
     assert_eq!(sides(MESSAGE, |message| Session::cshake256(b"", b"").unwrap().take(message)), [0, 5]);
+    assert_eq!(sides(MESSAGE, |label| seal(&[0; 32], b"", b"", label, &mut [], &mut [0; 16])), [0, 5]);
     assert_eq!(sides(OUTPUT, |out| cshake256(b"", b"", b"", &mut out.to_vec())), [0, 6]);
     assert_eq!(sides(OUTPUT, |out| Session::cshake256(b"", b"").unwrap().give(&mut out.to_vec())), [0, 6]);
 }
@@ -54,21 +56,17 @@ macro_rules! generator_limits {
 generator_limits!(generators, Generator);
 generator_limits!(kmac_generators, KmacGenerator);
 
-/// The bytes that edition 2 adds to the tag's message count towards no limit, so that both editions have the same.
 #[test]
-fn seals_of_either_edition() {
-    for edition in [Edition::One, Edition::Two] {
-        let sealed = |key: &[u8], iv: &[u8], label: &[u8], tag: &[u8]| seal(edition, key, iv, b"", label, &mut [], &mut tag.to_vec());
-        let opened = |tag: &[u8]| open(edition, &[0; 32], b"", b"", b"", &mut [], tag);
-        assert_eq!(sides(SEALING_KEY, |key| sealed(key, b"", b"", &[0; 16])), [0, 2]);
-        assert_eq!(sides(SEALING_KEY - 1, |key| sealed(key, b"", b"", &[0; 16])), [2, 0]);
-        assert_eq!(sides(STRING, |iv| sealed(&[0; 32], iv, b"", &[0; 16])), [0, 3]);
-        assert_eq!(sides(MESSAGE, |label| sealed(&[0; 32], b"", label, &[0; 16])), [0, 5]);
-        assert_eq!(sides(*TAG.end(), |tag| sealed(&[0; 32], b"", b"", tag)), [0, 7]);
-        assert_eq!(sides(*TAG.start() - 1, |tag| sealed(&[0; 32], b"", b"", tag)), [7, 0]);
-        assert_eq!(sides(*TAG.end(), opened), [8, 7]);
-        assert_eq!(sides(*TAG.start() - 1, opened), [7, 8]);
-    }
+fn sealing_keys_and_tags() {
+    assert_eq!(sides(SEALING_KEY, |key| seal(key, b"", b"", b"", &mut [], &mut [0; 16])), [0, 2]);
+    assert_eq!(sides(SEALING_KEY - 1, |key| seal(key, b"", b"", b"", &mut [], &mut [0; 16])), [2, 0]);
+    assert_eq!(sides(*TAG.end(), |tag| seal(&[0; 32], b"", b"", b"", &mut [], &mut tag.to_vec())), [0, 7]);
+    assert_eq!(
+        sides(*TAG.start() - 1, |tag| seal(&[0; 32], b"", b"", b"", &mut [], &mut tag.to_vec())),
+        [7, 0]
+    );
+    assert_eq!(sides(*TAG.end(), |tag| open(&[0; 32], b"", b"", b"", &mut [], tag)), [8, 7]);
+    assert_eq!(sides(*TAG.start() - 1, |tag| open(&[0; 32], b"", b"", b"", &mut [], tag)), [7, 8]);
 }
 
 /// No plan of 65,536 bytes is well formed, since 4,096 rows take at most 12,290: at the limit the answer is 9.

@@ -1,16 +1,14 @@
--- Past the number of lengths and edition the tag is worked out afresh and compared; only then is the text combined with the stream (`Opening.opens`).
-use mathlib.Core.Path.{◌≡◌, refl, sym, ap₂, ◌∙◌}
+-- Past the lengths' number the tag is worked out afresh and compared; only then is the text combined with the stream (`Opening.opens`).
+use mathlib.Core.Path.{◌≡◌, refl, sym, ◌∙◌}
 use mathlib.Core.Bool.{Bool, true, false}
 use Prim.Native.Nat.{◌+◌, ◌≤◌}
 use native.Mathlib.Omega.{arith}
 use borrow.Author.Rules.{rules}
 use lib.ListN.{length}
-use Rattle.answers.specs.Done.{first_number}
-use Rattle.answers.specs.Laws.{first_number-passed}
 use Rattle.calls.specs.Start.{same_bytes}
 use Rattle.aead.specs.Limits.{least_tag, longest_tag}
 use Rattle.aead.specs.Aead.{SealArguments, seal_arguments, tag_of}
-use Rattle.aead.specs.Refusals.{WithinLimits, uncompared_refusal}
+use Rattle.aead.specs.Refusals.{WithinLimits, open_lengths_refusal}
 use Rattle.aead.specs.Answers.{OpensInto}
 use Rattle.aead.proofs.Refusals.{lengths_accepted}
 use Rattle.aead.proofs.Answers.{answer, open_refused, open_mismatch}
@@ -31,13 +29,10 @@ abbrev tagging : tie.After-same-beginning → tie.After-make-tag
 tagging c = c.before.before.before
 
 abbrev streaming : tie.After-make-tag → tie.After-begin-stream
-streaming c = c.before.before.before.before.before
+streaming c = c.before.before.before.before
 
-abbrev checking : tie.After-first-of → tie.After-lengths-refusal
-checking c = c.before.before
-
-abbrev entry : tie.After-first-of → tie.Start
-entry c = (checking c).before.before.before.before.before.before.before
+abbrev entry : tie.After-lengths-refusal → tie.Start
+entry c = c.before.before.before.before.before.before.before
 
 abbrev start : tie.After-same-beginning → tie.Start
 start c = entry (streaming (tagging c)).before.before
@@ -50,56 +45,47 @@ Within s =
     WithinLimits least_tag (length s.args.key.now) (length s.args.iv.now) (length s.args.ciphertext.now) (length s.args.label.now)
     (length s.args.out.now) (length s.args.tag.now)
 
--- the number is the definition's
-number_is : (c : tie.After-first-of)
-    → c.first_of.result
-    ≡ uncompared_refusal (kmac_aead (entry c).args.edition) (arguments (entry c)) (length (entry c).args.out.now) (length (entry c).args.tag.now)
-number_is c = c.first_of.ensures ∙ ap₂ first_number (checking c).lengths-refusal.ensures c.before.edition-refusal.ensures
-
--- no number is given
-accepted : (c : tie.Else1)
-    → 0 ≡ uncompared_refusal (kmac_aead (entry c.before).args.edition) (arguments (entry c.before)) (length (entry c.before).args.out.now)
-    (length (entry c.before).args.tag.now)
-accepted c = sym c.if1.false ∙ number_is c.before
-
--- what the lengths then are
+-- what the lengths are once they are accepted
 within : (c : tie.Else1) → Within (entry c.before)
-within c = lengths_accepted _ _ _ _ _ _ _ (first_number-passed _ _ (sym (accepted c))).0
+within c = lengths_accepted _ _ _ _ _ _ _ (sym c.before.lengths-refusal.ensures ∙ c.if1.false)
+
+-- no number is given for them
+accepted : (c : tie.Else1)
+    → 0 ≡ open_lengths_refusal kmac_aead (arguments (entry c.before)) (length (entry c.before).args.out.now)
+    (length (entry c.before).args.tag.now)
+accepted c = sym c.if1.false ∙ c.before.lengths-refusal.ensures
 
 returns : tie.Need-returns
 returns c =
     let s = entry c.before in
-    open_refused (kmac_aead s.args.edition) (arguments s) s.args.out.now s.args.tag.now c.before.first_of.result (number_is c.before)
-    c.if1.true
+    let number = c.before.lengths-refusal in
+    open_refused kmac_aead (arguments s) s.args.out.now s.args.tag.now number.result number.ensures c.if1.true
 
 -- the stream and the tag are the construction's
 stream_is : (f : tie.After-begin-stream)
-    → Streams (entry f.before.before).args.edition (entry f.before.before).args.key.now (entry f.before.before).args.iv.now
+    → Streams (entry f.before.before).args.key.now (entry f.before.before).args.iv.now
     (length (entry f.before.before).args.ciphertext.now) f.begin-stream.result
 stream_is f =
     let w = within f.before in
-    streams _ _ _ _ _ f.begin-stream.ensures (omega (arith, w.key)) w.iv (omega (arith, w.input))
+    streams _ _ _ _ f.begin-stream.ensures (omega (arith, w.key)) w.iv (omega (arith, w.input))
 
 key_length : tie.Need-slice-aggregate-make-tag
 key_length c = search rules
 
 tag_is : (m : tie.After-make-tag)
-    → Tags (entry (streaming m).before.before).args.edition
-    (streaming m).begin-stream.result.authentication (entry (streaming m).before.before).args.ciphertext.now
-    (entry (streaming m).before.before).args.label.now m.make-tag.new.1.1.1.1.0 longest_tag m.make-tag.result
+    → Tags (streaming m).begin-stream.result.authentication (entry (streaming m).before.before).args.ciphertext.now
+    (entry (streaming m).before.before).args.label.now m.make-tag.new.1.1.1.0 longest_tag m.make-tag.result
 tag_is m =
-    let made = rw m.before.before.before.edition-of.ensures at m.make-tag.ensures in
-    tags _ _ _ _ _ _ _ made (omega (arith, key_length m.before.before)) (within (streaming m).before).input (omega arith)
+    tags _ _ _ _ _ _ m.make-tag.ensures (omega (arith, key_length m.before.before)) (within (streaming m).before).input (omega arith)
 
 abbrev SameIs : Bool → tie.Start → Type 0
-SameIs b s = b ≡ same_bytes s.args.tag.now (tag_of (kmac_aead s.args.edition) (arguments s) s.args.ciphertext.now (length s.args.tag.now))
+SameIs b s = b ≡ same_bytes s.args.tag.now (tag_of kmac_aead (arguments s) s.args.ciphertext.now (length s.args.tag.now))
 
 -- the comparison is the definition's
 same_is : (c : tie.After-same-beginning) → SameIs c.same-beginning.result (start c)
 same_is c =
-    compares (start c).args.edition (arguments (start c))
-    (streaming (tagging c)).begin-stream.result (stream_is (streaming (tagging c))) (start c).args.tag.now
-    (tagging c).make-tag.new.1.1.1.1.0 (tagging c).make-tag.result (tag_is (tagging c)) (within (streaming (tagging c)).before).long_tag
+    compares (arguments (start c)) (streaming (tagging c)).begin-stream.result (stream_is (streaming (tagging c))) (start c).args.tag.now
+    (tagging c).make-tag.new.1.1.1.0 (tagging c).make-tag.result (tag_is (tagging c)) (within (streaming (tagging c)).before).long_tag
     c.same-beginning.result c.same-beginning.ensures
 
 matches : (c : tie.Then2) → SameIs true (start c.before)
@@ -109,37 +95,31 @@ differs : (c : tie.Else2) → SameIs false (start c.before)
 differs c = sym c.if2.false ∙ same_is c.before
 
 opens_into : (c : tie.After-combine-stream)
-    → OpensInto (kmac_aead (start (same c).before).args.edition) (arguments (start (same c).before))
-    (start (same c).before).args.out.now (start (same c).before).args.tag.now
+    → OpensInto kmac_aead (arguments (start (same c).before)) (start (same c).before).args.out.now (start (same c).before).args.tag.now
     (answer 0 ((streaming (tagging (same c).before)).begin-stream.result.runs + (tagging (same c).before).make-tag.result))
     c.combine-stream.new.1.1.0
 opens_into c =
     let compared = (same c).before in
     let made = tagging compared in
     let f = streaming made in
-    opens (start compared).args.edition (arguments (start compared))
-    f.begin-stream.result (stream_is f) (start compared).args.tag.now made.make-tag.last.1.1.1.1.0
+    opens (arguments (start compared)) f.begin-stream.result (stream_is f) (start compared).args.tag.now made.make-tag.last.1.1.1.0
     made.make-tag.result (tag_is made) (within f.before).long_tag (start compared).args.out.now c.combine-stream.new.1.1.0
     (accepted f.before) (within f.before).output (within f.before).least_tag c.combine-stream.ensures.0 (matches (same c))
 
 returns_2 : tie.Need-returns-2
-returns_2 c = rw (streaming (tagging (same (combining c)).before)).before.if1.false (opens_into (combining c))
+returns_2 c = opens_into (combining c)
 
 returns_3 : tie.Need-returns-3
 returns_3 c =
     let s = start c.before in
-    open_mismatch (kmac_aead s.args.edition) (arguments s) s.args.out.now s.args.tag.now
-    (accepted (streaming (tagging c.before)).before) (differs c)
+    open_mismatch kmac_aead (arguments s) s.args.out.now s.args.tag.now (accepted (streaming (tagging c.before)).before) (differs c)
 
 pub open_spec : {M : Type 1} → statement M
 open_spec =
     tie.close
     (tie.spec
     (λ c κs. tt)
-    (λ c κs. tt)
-    (λ c κs. tt)
     returns
-    (λ c κs. tt)
     (λ c κs. tt)
     key_length
     (λ c. refl)

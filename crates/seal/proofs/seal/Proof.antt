@@ -1,11 +1,9 @@
--- Past the number of lengths and edition the parts make the stream, the ciphertext and the tag; their contracts are the definition's steps (`Steps.seals`).
-use mathlib.Core.Path.{◌≡◌, sym, ap₂, ◌∙◌}
+-- Past the lengths' number the parts make the stream, the ciphertext and the tag; their contracts are the definition's steps (`Steps.seals`).
+use mathlib.Core.Path.{◌≡◌, refl, sym, ◌∙◌}
 use Prim.Native.Nat.{◌+◌, ◌≤◌}
 use native.Mathlib.Omega.{arith}
 use borrow.Author.Rules.{rules}
 use lib.ListN.{length}
-use Rattle.answers.specs.Done.{first_number}
-use Rattle.answers.specs.Laws.{first_number-passed}
 use Rattle.aead.specs.Limits.{least_tag}
 use Rattle.aead.specs.Aead.{SealArguments, seal_arguments}
 use Rattle.aead.specs.Refusals.{WithinLimits, seal_refusal}
@@ -23,16 +21,13 @@ abbrev tagging : tie.After-struct-known → tie.After-make-tag
 tagging c = c.before.before.before
 
 abbrev combining : tie.After-make-tag-arg2 → tie.After-combine-stream
-combining c = c.before.before.before.before.before.before.before
+combining c = c.before.before.before.before.before.before
 
 abbrev streaming : tie.After-combine-stream → tie.After-begin-stream
 streaming c = c.before.before.before.before
 
-abbrev checking : tie.After-first-of → tie.After-lengths-refusal
-checking c = c.before.before
-
-abbrev entry : tie.After-first-of → tie.Start
-entry c = (checking c).before.before.before.before.before.before.before
+abbrev entry : tie.After-lengths-refusal → tie.Start
+entry c = c.before.before.before.before.before.before.before
 
 abbrev start : tie.After-make-tag → tie.Start
 start m = entry (streaming (combining m.before)).before.before
@@ -45,59 +40,51 @@ Within s =
     WithinLimits least_tag (length s.args.key.now) (length s.args.iv.now) (length s.args.text.now) (length s.args.label.now)
     (length s.args.out.now) (length s.args.tag.now)
 
--- the number is the definition's
-number_is : (c : tie.After-first-of)
-    → c.first_of.result
-    ≡ seal_refusal (kmac_aead (entry c).args.edition) (arguments (entry c)) (length (entry c).args.out.now) (length (entry c).args.tag.now)
-number_is c = c.first_of.ensures ∙ ap₂ first_number (checking c).lengths-refusal.ensures c.before.edition-refusal.ensures
-
--- no number is given
-accepted : (c : tie.Else1)
-    → 0 ≡ seal_refusal (kmac_aead (entry c.before).args.edition) (arguments (entry c.before)) (length (entry c.before).args.out.now)
-    (length (entry c.before).args.tag.now)
-accepted c = sym c.if1.false ∙ number_is c.before
-
--- what the lengths then are
+-- what the lengths are once they are accepted
 within : (c : tie.Else1) → Within (entry c.before)
-within c = lengths_accepted _ _ _ _ _ _ _ (first_number-passed _ _ (sym (accepted c))).0
+within c = lengths_accepted _ _ _ _ _ _ _ (sym c.before.lengths-refusal.ensures ∙ c.if1.false)
+
+-- no number is given for them
+accepted : (c : tie.Else1)
+    → 0 ≡ seal_refusal kmac_aead (arguments (entry c.before)) (length (entry c.before).args.out.now)
+    (length (entry c.before).args.tag.now)
+accepted c = sym c.if1.false ∙ c.before.lengths-refusal.ensures
 
 returns : tie.Need-returns
 returns c =
     let s = entry c.before in
-    seal_refused (kmac_aead s.args.edition) (arguments s) s.args.out.now s.args.tag.now c.before.first_of.result (number_is c.before)
-    c.if1.true
+    let number = c.before.lengths-refusal in
+    seal_refused kmac_aead (arguments s) s.args.out.now s.args.tag.now number.result number.ensures c.if1.true
 
 -- the stream and the tag are the construction's
 stream_is : (f : tie.After-begin-stream)
-    → Streams (entry f.before.before).args.edition (entry f.before.before).args.key.now (entry f.before.before).args.iv.now
+    → Streams (entry f.before.before).args.key.now (entry f.before.before).args.iv.now
     (length (entry f.before.before).args.text.now) f.begin-stream.result
 stream_is f =
     let w = within f.before in
-    streams _ _ _ _ _ f.begin-stream.ensures (omega (arith, w.key)) w.iv (omega (arith, w.input))
+    streams _ _ _ _ f.begin-stream.ensures (omega (arith, w.key)) w.iv (omega (arith, w.input))
 
 key_length : tie.Need-slice-aggregate-make-tag
 key_length c = search rules
 
 tag_is : (m : tie.After-make-tag)
-    → Tags (start m).args.edition
-    (streaming (combining m.before)).begin-stream.result.authentication (combining m.before).combine-stream.new.1.1.0
-    (start m).args.label.now m.make-tag.new.1.1.1.1.0 (length (start m).args.tag.now) m.make-tag.result
+    → Tags (streaming (combining m.before)).begin-stream.result.authentication (combining m.before).combine-stream.new.1.1.0
+    (start m).args.label.now m.make-tag.new.1.1.1.0 (length (start m).args.tag.now) m.make-tag.result
 tag_is m =
     let b = combining m.before in
     let w = within (streaming b).before in
-    let made = rw m.before.before.before.before.edition-of.ensures at m.make-tag.ensures in
-    tags _ _ _ _ _ _ _ made (omega (arith, key_length m.before.before.before))
+    tags _ _ _ _ _ _ m.make-tag.ensures (omega (arith, key_length m.before.before.before))
     (omega (arith, b.combine-stream.kept.1.1.0, w.input, w.output)) w.long_tag
 
 seals_into : (m : tie.After-make-tag)
-    → Seals (kmac_aead (start m).args.edition) (arguments (start m)) (start m).args.out.now (start m).args.tag.now
+    → Seals kmac_aead (arguments (start m)) (start m).args.out.now (start m).args.tag.now
     (answer 0 ((streaming (combining m.before)).begin-stream.result.runs + m.make-tag.result))
-    (combining m.before).combine-stream.new.1.1.0 m.make-tag.new.1.1.1.1.0
+    (combining m.before).combine-stream.new.1.1.0 m.make-tag.new.1.1.1.0
 seals_into m =
     let b = combining m.before in
     let f = streaming b in
-    seals (start m).args.edition (arguments (start m)) f.begin-stream.result (stream_is f) (start m).args.out.now (start m).args.tag.now
-    b.combine-stream.last.1.1.0 m.make-tag.new.1.1.1.1.0 m.make-tag.result (accepted f.before) (within f.before).output
+    seals (arguments (start m)) f.begin-stream.result (stream_is f) (start m).args.out.now (start m).args.tag.now
+    b.combine-stream.last.1.1.0 m.make-tag.new.1.1.1.0 m.make-tag.result (accepted f.before) (within f.before).output
     b.combine-stream.ensures.0 (tag_is m)
 
 returns_2 : tie.Need-returns-2
@@ -108,10 +95,7 @@ seal_spec =
     tie.close
     (tie.spec
     (λ c κs. tt)
-    (λ c κs. tt)
-    (λ c κs. tt)
     returns
-    (λ c κs. tt)
     (λ c κs. tt)
     (λ c κs. tt)
     key_length

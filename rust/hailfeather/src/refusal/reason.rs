@@ -24,12 +24,10 @@ pub enum Reason {
     MalformedPlan = 9,
     /// 10: the plan has no such chute.
     NoSuchChute = 10,
-    /// 12: there is no such edition of a seal.
-    UnknownEdition = 12,
 }
 
-/// Every reason, by rising number.
-pub(super) const REASONS: [Reason; 11] = [
+/// Every reason, the one with number n at n - 1.
+pub(super) const REASONS: [Reason; 10] = [
     Reason::WrongState,
     Reason::BadKeyLength,
     Reason::StringTooLong,
@@ -40,5 +38,4 @@ pub(super) const REASONS: [Reason; 11] = [
     Reason::TagMismatch,
     Reason::MalformedPlan,
     Reason::NoSuchChute,
-    Reason::UnknownEdition,
 ];

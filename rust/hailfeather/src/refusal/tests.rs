@@ -22,8 +22,7 @@ fn a_reason_has_its_number() {
     for (_, number, words) in lines() {
         assert_eq!(Refusal::without_place(number, words).reason() as u8, number);
     }
-    assert!(REASONS.windows(2).all(|pair| (pair[0] as u8) < pair[1] as u8));
-    assert_eq!(REASONS.map(|reason| reason as u8), [1, 2, 3, 4, 5, 6, 7, 8, 9, 10, 12]);
+    assert!((1..).zip(REASONS).all(|(number, reason)| reason as u8 == number));
 }
 
 #[test]
@@ -38,8 +37,7 @@ fn an_entry_has_its_own_refusals_in_order() {
         let own: Vec<_> = lines().filter(|line| line.0 == entry).map(|(_, number, words)| (number, words)).collect();
         let found: Vec<_> = refusals(entry).map(|refusal| (refusal.number(), refusal.words())).collect();
         assert_eq!(found, own);
-        let rank = |number: u8| if number == 12 { (7, 1) } else { (number, 0) }; // after 7 and before 8
-        assert!(found.windows(2).all(|pair| rank(pair[0].0) < rank(pair[1].0)), "{entry}");
+        assert!(found.windows(2).all(|pair| pair[0].0 < pair[1].0), "{entry}");
     }
     for name in ["", "kmac", "kmac256 ", "kmac2567", "KMAC256"] {
         assert_eq!(refusals(name).count(), 0, "{name}");

@@ -5,13 +5,11 @@ use super::Refusal;
 /// One line for each refusal that an entry has: the entry, the number, the words.
 pub(super) const WORDS: &str = include_str!("../../refusals.txt");
 
-/// All refusals that an entry of the library has: none for a name that is no entry's. [`Refusal`] lists the entries. Where several apply, the first of
-/// them is given: they stand by rising number, but 12 between 7 and 8.
+/// All refusals that an entry of the library has, by rising number: none for a name that is no entry's. [`Refusal`] lists the entries.
 ///
 /// ```
 /// let numbers: Vec<u8> = hailfeather::refusals("draw").map(|refusal| refusal.number()).collect();
 /// assert_eq!(numbers, [1, 3, 6]);
-/// assert_eq!(hailfeather::refusals("open").map(|refusal| refusal.number()).last(), Some(8));
 /// assert_eq!(hailfeather::refusals("no entry").count(), 0);
 /// ```
 pub fn refusals(entry: &str) -> impl Iterator<Item = Refusal> + '_ {

@@ -6,7 +6,6 @@ mod halls;
 mod lent;
 mod one_call;
 mod reader;
-mod seals;
 mod states;
 
 pub use reader::{Reader, REFUSALS};

@@ -3,7 +3,7 @@
 use std::fmt::Display;
 
 use hailfeather::plan::{self, Source};
-use hailfeather::{Refusal, Runs};
+use hailfeather::{open, seal, Refusal, Runs};
 
 use super::bytes::{bytes, lanes, list, number};
 use super::lent::Lent;
@@ -63,6 +63,23 @@ pub fn permuted([before]: [&str; 1], [after]: [&str; 1]) -> Compared {
 pub fn hash(function: Hash, [first, customisation, message, length]: [&str; 4], [refusal, runs, output]: [&str; 3]) -> Compared {
     let mut out = Lent::new(number(length));
     let found = function(&bytes(first), &bytes(customisation), &bytes(message), out.middle());
+    same(&[refusal, runs], runs_of(found))?;
+    out.check(found.is_err(), output)?;
+    Ok(found.err())
+}
+
+pub fn sealed([key, iv, text, label, length, tag_length]: [&str; 6], [refusal, runs, output, tag]: [&str; 4]) -> Compared {
+    let (mut out, mut lent_tag) = (Lent::new(number(length)), Lent::new(number(tag_length)));
+    let found = seal(&bytes(key), &bytes(iv), &bytes(text), &bytes(label), out.middle(), lent_tag.middle());
+    same(&[refusal, runs], runs_of(found))?;
+    out.check(found.is_err(), output)?;
+    lent_tag.check(found.is_err(), tag)?;
+    Ok(found.err())
+}
+
+pub fn opened([key, iv, ciphertext, label, length, tag]: [&str; 6], [refusal, runs, output]: [&str; 3]) -> Compared {
+    let mut out = Lent::new(number(length));
+    let found = open(&bytes(key), &bytes(iv), &bytes(ciphertext), &bytes(label), out.middle(), &bytes(tag));
     same(&[refusal, runs], runs_of(found))?;
     out.check(found.is_err(), output)?;
     Ok(found.err())

@@ -8,8 +8,7 @@ use hailfeather::{hall, plan};
 use super::bytes::{bytes, list, number};
 use super::generators::Generators;
 use super::halls;
-use super::one_call::{hash, migrated, permuted, row, value, written, Compared};
-use super::seals::Seals;
+use super::one_call::{hash, migrated, opened, permuted, row, sealed, value, written, Compared};
 use super::states::{Sessions, Walks};
 
 pub const REFUSALS: &str = include_str!("../../refusals.txt");
@@ -17,7 +16,6 @@ pub const REFUSALS: &str = include_str!("../../refusals.txt");
 #[derive(Default)]
 pub struct Reader {
     pub sessions: Sessions,
-    pub seals: Seals,
     generators: Generators,
     walks: Walks,
     /// How many lines of each entry were compared.
@@ -32,11 +30,6 @@ fn exactly<'a, const N: usize>(fields: &[&'a str]) -> Result<[&'a str; N], Strin
 }
 
 impl Reader {
-    /// How many lines were passed over, since the package cannot make such a call.
-    pub fn unreachable(&self) -> usize {
-        self.sessions.unreachable + self.seals.unreachable
-    }
-
     /// Calls the package for every line; the first difference ends it.
     pub fn read(&mut self, file: &str) -> Result<(), String> {
         for (place, line) in file.lines().enumerate() {
@@ -76,8 +69,8 @@ impl Reader {
             "session_kmacxof256" => self.sessions.start(Session::kmacxof256, exactly(given)?, exactly(answer)?),
             "take" => self.sessions.take(exactly(given)?, exactly(answer)?),
             "give" => self.sessions.give(exactly(given)?, exactly(answer)?),
-            "seal" => self.seals.sealed(exactly(given)?, exactly(answer)?),
-            "open" => self.seals.opened(exactly(given)?, exactly(answer)?),
+            "seal" => sealed(exactly(given)?, exactly(answer)?),
+            "open" => opened(exactly(given)?, exactly(answer)?),
             "generator_fresh" => self.generators.begin(Generator::new()),
             "kmac_generator_fresh" => self.generators.begin(KmacGenerator::new()),
             "seed" => self.generators.seed(exactly(given)?, exactly(answer)?),

@@ -15,7 +15,6 @@ opened_into_spec =
     (λ c κs. search rules)
     (λ c κs. search rules)
     (λ c κs. search rules)
-    (λ c κs. search rules)
     (λ c. search rules)
     slice_aggregate_open
     (λ c κs. search rules)

@@ -21,7 +21,6 @@ sealed_into_spec =
     (λ c κs. search rules)
     (λ c κs. search rules)
     (λ c κs. search rules)
-    (λ c κs. search rules)
     (λ c. search rules)
     slice_aggregate_seal
     (λ c. search rules)

@@ -1,4 +1,0 @@
-pub mod TagsFedAlike
-pub mod Facts
-pub mod Numbers
-pub mod Stores
