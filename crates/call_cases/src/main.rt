@@ -4,6 +4,8 @@
 // The input is three blocks, of calls that keep no state, of sessions and of the generators; the first two are filled up to the buffer's length. A block begins
 // with how many cases it has, in a word of four bytes, lowest byte first. Then come the cases, and then the bytes of their strings. A case is a letter, a word
 // and two strings, each as two words: where in the block it begins, and its length; one that keeps no state has two strings and a word more.
+#![tactic(auto)]
+
 mod case; // case.rt: the parts of a case, and what is written for every family
 mod generators; // generators.rt: seeding and drawing
 mod hashes; // hashes.rt: the three functions in one call

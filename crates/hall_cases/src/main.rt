@@ -3,6 +3,8 @@
 // First stands how many cases there are. A case is a letter, five words of four bytes, lowest byte first, and then bytes: as many as the first word says, and
 // then as many as the second says. From 2^24 on, that many zeros less 2^24 are meant, and none stand there. The next two words are a number of chutes or of
 // entries, low and high, and the last is a length.
+#![tactic(auto)]
+
 mod entries; // entries.rt: the entries' answers
 mod lists; // lists.rt: plans read into lists
 mod show; // show.rt: how answers are written

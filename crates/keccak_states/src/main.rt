@@ -1,5 +1,7 @@
 // Runs the permutation from the zero state and prints the state after one, two and 1,002 permutations, a lane to a line. The expected output is that of
 // reference/keccak_states.py; the first two states are published ones.
+#![tactic(auto)]
+
 use libc::STDOUT_FILENO;
 
 // 1,000 permutations.

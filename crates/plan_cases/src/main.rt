@@ -2,6 +2,8 @@
 //
 // First stands how many cases there are. A case is a letter, four words of four bytes, lowest byte first, and then bytes: as many as the first word says, and
 // then as many as the second says. From 2^24 on, that many zeros less 2^24 are meant, and none stand there. The other two words are a chute, low and high.
+#![tactic(auto)]
+
 mod entries; // entries.rt: the entries' answers
 
 use libc::STDIN_FILENO;

@@ -1,5 +1,7 @@
 // The migration program (docs/RULES.md, 'Migration'): reads a plan by the old rule on standard input and writes it by the present one, or nothing where it is
 // refused.
+#![tactic(auto)]
+
 ghost use Rattle.plan_migrate.specs.Output.{Leaves};
 
 use libc::{STDIN_FILENO, STDOUT_FILENO};

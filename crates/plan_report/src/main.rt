@@ -1,5 +1,7 @@
 // The report program (docs/RULES.md, 'Chute plan'): reads a plan on standard input and writes the number of rows and each row, or the refusal
 // with the place at which the plan is malformed.
+#![tactic(auto)]
+
 use libc::{STDIN_FILENO, STDOUT_FILENO};
 use plan::PlanSummary;
 

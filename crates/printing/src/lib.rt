@@ -1,4 +1,6 @@
 // What the gate's programs write to standard output.
+#![tactic(auto)]
+
 use libc::STDOUT_FILENO;
 
 // Two hexadecimal digits.

@@ -11,10 +11,10 @@ use Rattle.testing.specs.Data.{add_number, add_bytes}
 use Rattle.testing.proofs.add_bytes.Statement.{statement}
 use Rattle.testing.proofs.add_bytes.Tie as tie
 
-abbrev invariant-loop : tie.invariant-loop
+abbrev invariant-loop : tie.invariant-loop-i
 invariant-loop sum bytes all₀ i₀ all i = (i ≤ length bytes) × (add_bytes all (drop i bytes) ≡ add_bytes sum bytes)
 
-abbrev decreases-loop : tie.decreases-loop
+abbrev decreases-loop : tie.decreases-loop-i
 decreases-loop sum bytes all₀ i₀ all i = length bytes - i
 
 more : (s t i : ℕ) (l : List ℕ) → i < length l → add_bytes s (drop i l) ≡ t → add_bytes (add_number s (get_or l i 0)) (drop (i + 1) l) ≡ t
@@ -26,17 +26,17 @@ done : (s t i : ℕ) (l : List ℕ) → length l ≤ i → add_bytes s (drop i l
 unfolding add_bytes
 done s t i l h e = sym (ap (add_bytes s) (drop_of_length-le l h)) ∙ e
 
-loop_again : tie.Need-loop-preserved invariant-loop decreases-loop
+loop_again : tie.Need-loop-i-preserved invariant-loop decreases-loop
 loop_again c =
-    let k = c.before.before.before.before.loop in
+    let k = c.before.before.before.before.loop-i in
     let l = c.before.before.before.before.before.before.args.bytes.now in
     let h : k.i < length l = omega arith in
-    let n : c.add-number.result ≡ add_number k.all (get_or l k.i 0) = c.add-number.ensures ∙ ap (add_number k.all) c.before.wide.ensures in
+    let n : c.add_number-all.result ≡ add_number k.all (get_or l k.i 0) = c.add_number-all.ensures ∙ ap (add_number k.all) c.before.wide.ensures in
     (omega arith, ap (λ (x : ℕ). add_bytes x (drop (k.i + 1) l)) n ∙ more k.all _ k.i l h k.invariant.1)
 
 returns : tie.Need-returns invariant-loop decreases-loop
 returns c =
-    let k = c.before.loop in
+    let k = c.before.loop-i in
     let a = c.before.before.before.args in
     let h : length a.bytes.now ≤ k.i = omega arith in
     done k.all _ k.i a.bytes.now h k.invariant.1

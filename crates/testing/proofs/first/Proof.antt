@@ -8,10 +8,10 @@ use lib.Seq.{length-take-le, take_all}
 use Rattle.testing.proofs.first.Statement.{statement}
 use Rattle.testing.proofs.first.Tie as tie
 
-slice_aggregate_result : tie.Need-slice-aggregate-result
+slice_aggregate_result : tie.Need-slice_bounds-result-end
 slice_aggregate_result c = sym (length-take-le c.before.before.args.n c.before.before.args.bytes.now (omega arith))
 
-returns_2 : tie.Need-returns-2
+returns_2 : tie.Need-returns-else-n-bytes
 returns_2 c =
     let a = c.before.args in
     let h : length a.bytes.now ≤ a.n = omega arith in

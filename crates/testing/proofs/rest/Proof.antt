@@ -8,28 +8,28 @@ use borrow.Author.Rules.{rules}
 use Rattle.testing.proofs.rest.Statement.{statement}
 use Rattle.testing.proofs.rest.Tie as tie
 
-sub_result : tie.Need-overflow-sub-result
+sub_result : tie.Need-slice_bounds-result-count
 sub_result c = search rules
 
-part_result_start : tie.Need-slice-bounds-result-start
+part_result_start : tie.Need-slice_bounds-result-start
 part_result_start c = search rules
 
-part_result_end : tie.Need-slice-bounds-result-end
+part_result_end : tie.Need-slice_bounds-result-end
 part_result_end c = search rules
 
-returns : tie.Need-returns
+returns : tie.Need-returns-then-n-bytes
 returns c =
     let a = c.before.before.args in
     let h : length (drop a.n a.bytes.now) ≤ length a.bytes.now - a.n = simp length-drop (omega arith) in
     take_all _ _ h
 
-slice_aggregate_result : tie.Need-slice-aggregate-result
+slice_aggregate_result : tie.Need-slice_bounds-result-end-2
 slice_aggregate_result c = search rules
 
-returns_2 : tie.Need-returns-2
+returns_2 : tie.Need-returns
 returns_2 c =
     let a = c.before.before.args in
-    let h : length a.bytes.now ≤ a.n = omega (arith, c.before.if1.false) in
+    let h : length a.bytes.now ≤ a.n = omega (arith, c.before.if-n-bytes.false) in
     sym (drop_of_length-le a.bytes.now h)
 
 pub rest_spec : {M : Type 1} → statement M

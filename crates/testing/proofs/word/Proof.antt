@@ -4,7 +4,7 @@ use Rattle.testing.proofs.word.Statement.{statement}
 use Rattle.testing.proofs.word.Tie as tie
 
 returns : tie.Need-returns
-returns c = rw (c.before.before.half.ensures, c.half2.ensures, c.before.rest.ensures)
+returns c = rw (c.before.before.half.ensures, c.half-2.ensures, c.before.rest.ensures)
 
 pub word_spec : {M : Type 1} → statement M
 word_spec =
