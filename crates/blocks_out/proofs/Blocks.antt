@@ -9,7 +9,7 @@ use Rattle.fips202.specs.Fips202.{keccak_p}
 use Rattle.fips202.specs.Bytes.{bytes_at}
 use Rattle.fips202.specs.Laws.Bytes.{length_bytes_at}
 use Rattle.encode.specs.Padding.{rate, whole_blocks}
-use Rattle.encode.specs.Laws.Lengths.{one_block_fewer, no_whole_block}
+use Rattle.encode.proofs.Laws.Lengths.{one_block_fewer, no_whole_block}
 use Rattle.stores.specs.Laws.{sets_append}
 use Rattle.in_place.specs.Rounds.{rounds_with, RoundConstants}
 use Rattle.in_place.specs.Laws.Turns.{permutation}

@@ -11,14 +11,14 @@ use Rattle.encode.specs.Encode.{length_suffixed}
 use Rattle.calls.specs.Limits.{max_additional, max_output}
 use Rattle.calls.specs.Call.{fed}
 use Rattle.calls.specs.Count.{runs}
-use Rattle.calls.specs.Laws.Runs.{runs_by_lengths}
+use Rattle.calls.proofs.Laws.Runs.{runs_by_lengths}
 use Rattle.sponge.specs.Sponge.{sponge}
 use Rattle.sponge.proofs.Whole.{length_sponge}
 use Rattle.seeding.specs.declared.Drng.{Drng}
 use Rattle.seeding.specs.declared.Drng.TheVariants.{Cshake, Kmac}
 use Rattle.seeding.specs.Seeding.{key_bytes}
 use Rattle.pieces.specs.Pieces.{piece_bytes, piece_count}
-use Rattle.pieces.specs.Laws.{piece_count-fewer, total_runs-equal}
+use Rattle.pieces.proofs.Laws.{piece_count-fewer, total_runs-equal}
 use Rattle.drng.specs.Calls.{piece_call, generate}
 use Rattle.drng.specs.Drng.{draw_runs, draw_answer}
 use Rattle.drng.specs.Counts.{piece_runs, DrawCounts}

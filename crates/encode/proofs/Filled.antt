@@ -12,7 +12,7 @@ use Rattle.encode.specs.Encode.{big_endian, left_encode, right_encode}
 use Rattle.encode.specs.Answer.{encoded, Answers}
 use Rattle.encode.specs.Private.{big_endian_at}
 use Rattle.encode.specs.Laws.Digits.{length_digits}
-use Rattle.encode.specs.Laws.Lengths.{length_big_endian}
+use Rattle.encode.proofs.Laws.Lengths.{length_big_endian}
 
 drop_replicate : (k n a : ℕ) → drop k (replicate n a) ≡ replicate (n - k) a
 drop_replicate zero n a = rw sub-zero

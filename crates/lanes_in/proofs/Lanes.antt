@@ -11,7 +11,7 @@ use lib.Seq.{length-take-le}
 use Rattle.fips202.specs.Bytes.{xor_bytes}
 use Rattle.encode.specs.Digits.{digits, number_of}
 use Rattle.encode.specs.Laws.Digits.{number_of-digits}
-use Rattle.encode.specs.Laws.Bytes.{get_d_bytes, digits_bytes}
+use Rattle.encode.proofs.Laws.Bytes.{get_d_bytes, digits_bytes}
 use Rattle.lanes_in.specs.Laws.Lanes.{EachByte, number_of-split, bytes_take, bytes_drop, xor_lane_from, xor_lane_lem, xor_lane_at, more_put}
 
 -- a number's own eight

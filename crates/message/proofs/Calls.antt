@@ -7,7 +7,7 @@ use lib.ListN.{length, length-append}
 use Rattle.calls.specs.Start.{Start, start_refusal}
 use Rattle.calls.specs.Call.{Function, Call, start_of, message_of, output_bytes, fed, ending}
 use Rattle.calls.specs.Count.{output_runs, runs}
-use Rattle.calls.specs.Laws.Runs.{runs_by_lengths, length_ending}
+use Rattle.calls.proofs.Laws.Runs.{runs_by_lengths, length_ending}
 use Rattle.sponge.specs.Sponge.{sponge}
 use Rattle.sponge.specs.Running.{running, squeezed}
 use Rattle.start.specs.declared.Started.{Started}

@@ -15,7 +15,7 @@ use Rattle.leb128.specs.declared.Number.{Number}
 use Rattle.leb128.specs.declared.Number.TheVariants.{Value}
 use Rattle.leb128_write.specs.Written.{written_number}
 use Rattle.leb128_write.specs.Answers.{number_length}
-use Rattle.leb128_write.specs.Laws.{groups_count, length_is_lem}
+use Rattle.leb128_write.proofs.Laws.{groups_count, length_is_lem}
 use Rattle.old_number.specs.OldNumber.{old_number}
 use Rattle.old_number.specs.Laws.{OldUsed, old_used}
 use Rattle.plan_read.specs.Limits.{max_rows}

@@ -13,7 +13,7 @@ use Rattle.calls.specs.Limits.{max_key, max_customisation, max_message}
 use Rattle.calls.specs.Start.{keyed, start_refusal}
 use Rattle.calls.specs.Call.{KMACXOF256, kmacxof256, fed, ending}
 use Rattle.calls.specs.Count.{runs}
-use Rattle.calls.specs.Laws.Runs.{runs_by_lengths}
+use Rattle.calls.proofs.Laws.Runs.{runs_by_lengths}
 use Rattle.sponge.specs.Sponge.{sponge}
 use Rattle.sponge.specs.Running.{Running, running, finished, squeezed, after}
 use Rattle.sponge.proofs.Squeezing.{after_in}

@@ -6,7 +6,7 @@ use native.Mathlib.Omega.{arith}
 use lib.ListN.{length}
 use Rattle.leb128.specs.Number.{max_number}
 use Rattle.leb128_write.specs.Written.{written_number}
-use Rattle.leb128_write.specs.Laws.{past_written, is_written, length_known}
+use Rattle.leb128_write.proofs.Laws.{past_written, is_written, length_known}
 use Rattle.leb128_write.proofs.Writing.{none_large, none_room}
 use borrow.Author.Rules.{rules}
 use Rattle.leb128_write.proofs.write_number.Statement.{statement}

@@ -3,9 +3,9 @@ use Rattle.std.specs.Prelude.{◌≡◌, refl, List, ◌++◌, ℕ, ◌*◌, ◌
 use Rattle.std.proofs.Common.{ap, ◌∙◌, append_assoc, append-nil, arith, length-append}
 use Rattle.encode.specs.Padding.{rate, padded}
 use Rattle.encode.specs.Encode.{encode_string, right_encode, bytepad, KMAC}
-use Rattle.encode.specs.Laws.Encode.{encode_string-free, right_encode-free, bytepad_free}
-use Rattle.encode.specs.Laws.Lengths.{bytepad_blocks}
-use Rattle.encode.specs.Laws.Padding.{padded_after}
+use Rattle.encode.proofs.Laws.Encode.{encode_string-free, right_encode-free, bytepad_free}
+use Rattle.encode.proofs.Laws.Lengths.{bytepad_blocks}
+use Rattle.encode.proofs.Laws.Padding.{padded_after}
 use Rattle.calls.specs.Input.{fed_bytes}
 use Rattle.calls.specs.Start.{Start, named, keyed, start_prefix, start_suffix}
 use Rattle.calls.specs.Call.{Function, Call, cshake256, kmac256, kmacxof256, start_of, message_of, output_bytes, kmac_input, fed, ending, extendable, extendable_call}
