@@ -27,7 +27,8 @@ module _ (s : List ℕ) (at : ℕ) where
     lanes_after = ap (permuted (whole_blocks s (at + rate))) next ∙ ap (λ (k : ℕ). permuted k a) (sym (one_block_fewer s at h))
 
     pub out_after : (l : List ℕ)
-        → sets (sets l at (bytes_at b 0 rate)) (at + rate) (squeeze (whole_blocks s (at + rate)) (keccak_p b)) ≡ sets l at (squeeze (whole_blocks s at) (keccak_p a))
+        → sets (sets l at (bytes_at b 0 rate)) (at + rate) (squeeze (whole_blocks s (at + rate)) (keccak_p b))
+        ≡ sets l at (squeeze (whole_blocks s at) (keccak_p a))
     unfolding squeeze
     out_after l =
         let n : ℕ = whole_blocks s (at + rate) in

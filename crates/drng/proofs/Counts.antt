@@ -30,7 +30,8 @@ message_blocks additional e fits few =
     let x : length (length_suffixed additional) ≡ length additional + 1 = simp length-append in
     omega arith
 
-piece_runs_lem : (d : Drng) (additional key : List ℕ) → length additional ≤ max_additional → length key ≡ key_bytes → runs (piece_call d additional key) ≡ piece_runs d
+piece_runs_lem : (d : Drng) (additional key : List ℕ) → length additional ≤ max_additional → length key ≡ key_bytes
+    → runs (piece_call d additional key) ≡ piece_runs d
 unfolding width_in
 piece_runs_lem Cshake additional key fits size =
     runs_by_lengths (piece_call Cshake additional key) ∙ rw (size, message_blocks additional 0 fits (omega arith))

@@ -23,7 +23,8 @@ module _ {f : Function} (c : Call f) (s : Started) (h : Starts (start_of c) s) (
 
   pub message_runs : s.blocks + r + output_runs (output_bytes c) ≡ runs c
   message_runs =
-      let long : length m ≡ length (message_of c) + length (ending f (output_bytes c)) = ap length is ∙ length-append (message_of c) (ending f (output_bytes c)) in
+      let long : length m ≡ length (message_of c) + length (ending f (output_bytes c)) =
+      ap length is ∙ length-append (message_of c) (ending f (output_bytes c)) in
       omega (arith, e.blocks, runs_by_lengths c, start_blocks_lem (start_of c) s h ok, length_ending f (output_bytes c))
 
 -- a start's blocks are few enough to be added up

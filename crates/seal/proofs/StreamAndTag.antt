@@ -35,7 +35,8 @@ counts_fit r s hr hs = omega arith
 -- the key stream for a text of n bytes: its authentication key, and what the lanes give next
 pub record Streams (key iv : List ℕ) (n : ℕ) (r : Stream) : Type 0 where
   pub authentication : r.authentication ≡ take authentication_key_length (kmac_aead.key_stream key iv (authentication_key_length + n))
-  pub text : squeezed n (running r.lanes authentication_key_length) ≡ drop authentication_key_length (kmac_aead.key_stream key iv (authentication_key_length + n))
+  pub text : squeezed n (running r.lanes authentication_key_length)
+      ≡ drop authentication_key_length (kmac_aead.key_stream key iv (authentication_key_length + n))
   pub runs : r.runs ≡ kmac_aead.stream_runs key iv (authentication_key_length + n)
   pub bounded : r.runs ≤ runs_bound
 

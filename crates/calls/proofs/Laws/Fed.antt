@@ -16,7 +16,8 @@ kmac_parts : (K X : List ℕ) (L : ℕ) (S : List ℕ)
 unfolding fed_bytes start_prefix start_suffix
 kmac_parts K X L S = ap (padded 0x04) (simp append_assoc)
 
-pub fed_parts : {f : Function} (c : Call f) → fed c ≡ padded (start_suffix (start_of c)) (start_prefix (start_of c) ++ message_of c ++ ending f (output_bytes c))
+pub fed_parts : {f : Function} (c : Call f)
+    → fed c ≡ padded (start_suffix (start_of c)) (start_prefix (start_of c) ++ message_of c ++ ending f (output_bytes c))
 unfolding fed fed_bytes start_prefix start_suffix
 fed_parts (cshake256 X n N S) = rw append-nil
 fed_parts (kmac256 K X n S) = kmac_parts K X (8 * n) S

@@ -20,7 +20,8 @@ abbrev start : tie.After-number_length-length → tie.Start
 start n = n.before.before
 
 -- past the first test, the number is not above the largest
-known : (c : tie.Else-length-eq0) → let a = (start (asked c)).args in (a.value ≤ max_number) × ((asked c).number_length-length.result ≡ length (written_number a.value))
+known : (c : tie.Else-length-eq0) → let a = (start (asked c)).args in
+    (a.value ≤ max_number) × ((asked c).number_length-length.result ≡ length (written_number a.value))
 known c = let n = (asked c).number_length-length in length_known (start (asked c)).args.value n.result n.ensures c.if-length-eq0.false
 
 -- past all tests there is room
