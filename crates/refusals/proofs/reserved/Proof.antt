@@ -14,4 +14,4 @@ returns_2 : tie.Need-returns
 returns_2 c = let s = c.before.same in simp (sym (same_bytes-is s.result _ KMAC s.ensures) ∙ c.if-same.false)
 
 pub reserved_spec : {M : Type 1} → statement M
-reserved_spec = tie.close (tie.spec (λ c. search rules) (λ c κs. search rules) returns returns_2)
+reserved_spec = tie.close (tie.spec (λ c κs. search rules) returns returns_2)

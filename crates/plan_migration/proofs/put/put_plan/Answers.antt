@@ -5,7 +5,7 @@ use Rattle.std.proofs.Math.Seq.{sets}
 use Rattle.leb128.specs.Number.{max_number}
 use Rattle.leb128_write.specs.Written.{written_number}
 use Rattle.leb128_write.specs.Answers.{written_past, number_written}
-use Rattle.leb128_write.specs.Laws.{past_written, is_written}
+use Rattle.leb128_write.proofs.Laws.{past_written, is_written}
 use Rattle.old_number.specs.OldNumber.{old_number}
 use Rattle.plan_read.specs.Plan.{rows_by}
 use Rattle.plan_length.specs.Length.{written_rows}

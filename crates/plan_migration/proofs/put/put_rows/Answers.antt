@@ -3,7 +3,7 @@
 use Rattle.std.proofs.Common.{sym, ap, subst, ◌∙◌, ◌+◌, ◌-◌, length, drop, arith}
 use Rattle.std.proofs.Math.Seq.{sets}
 use Rattle.leb128_write.specs.Written.{written_number}
-use Rattle.leb128_write.specs.Laws.{past_written, is_written}
+use Rattle.leb128_write.proofs.Laws.{past_written, is_written}
 use Rattle.old_number.specs.OldNumber.{old_number}
 use Rattle.old_number.proofs.Reading.{bad_known}
 use Rattle.plan_read.specs.Plan.{Plan, row, rows_by}
