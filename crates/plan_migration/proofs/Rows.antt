@@ -71,7 +71,8 @@ with_row n r (refused k place) = refl
 
 -- a row more is counted
 pub with_more : (s : List ℕ) (i count at v next n : ℕ) → i < count → Found at s v next
-    → length_with n (rows_by old_number (count - i) at (drop at s)) ≡ length_with (n + number_length v) (rows_by old_number (count - (i + 1)) next (drop next s))
+    → length_with n (rows_by old_number (count - i) at (drop at s))
+    ≡ length_with (n + number_length v) (rows_by old_number (count - (i + 1)) next (drop next s))
 with_more s i count at v next n h f =
     rw (rows_more old_number s i count at v next h f.is, length_is_lem v f.small)
     (with_row n (row v at next) (rows_by old_number (count - (i + 1)) next (drop next s)))
