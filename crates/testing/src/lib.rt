@@ -1,4 +1,6 @@
 // What the gate's programs share: parts of a slice and numbers in it, and a checksum.
+#![tactic(auto)]
+
 ghost use Rattle.std.specs.Prelude.{◌≡◌, take, drop, get_or};
 ghost use Rattle.testing.specs.Data.{add_number, add_bytes, half_of, word_of};
 
