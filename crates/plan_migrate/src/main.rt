@@ -1,8 +1,10 @@
 // The migration program (docs/RULES.md, 'Migration'): reads a plan by the old rule on standard input and writes it by the present one, or nothing where it is
 // refused.
+#![tactic(auto)]
+
 ghost use Rattle.plan_migrate.specs.Output.{Leaves};
 
-use libc::{STDIN_FILENO, STDOUT_FILENO};
+use std::io;
 
 // One byte more than a plan may have tells a plan that is too long, so no input is read further.
 const READ: usize = plan_read::MAX_PLAN + 1;
@@ -12,12 +14,12 @@ fn room() -> [u8; READ] {
     [0u8; READ]
 }
 
-fn main() {
+fn main(rt: HostRuntime) -> io::Result<()> {
     let mut buffer = room();
-    let n = io::read_full(STDIN_FILENO, &mut buffer);
+    let n = reading::read_full(&mut rt.stdin(), &mut buffer)?;
     let mut out = room();
     let length = migrate(&buffer[..n], &mut out);
-    io::write_all(STDOUT_FILENO, &out[..length]);
+    rt.write_all(&out[..length])
 }
 
 // Migrates the plan into the first bytes of the buffer, and answers how many these are: none where it is refused.
