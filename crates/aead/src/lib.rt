@@ -1,5 +1,7 @@
 // What seals made of a key stream and a tag have in common, whatever makes the two (docs/RULES.md, 'Sealing'): the refusals by lengths. The definitions and
 // the theorems over any key stream and any tag stand in specs/.
+#![tactic(auto)]
+
 ghost use Rattle.std.specs.Prelude.{◌≡◌};
 ghost use Rattle.aead.specs.Refusals.{lengths_refusal};
 

@@ -1,5 +1,6 @@
 // What an entry answers with: a number of the refusal table (docs/RULES.md, 'Numbers'), and for the calls that are counted the permutations they took.
 // The numbers are those of specs/Numbers.antt. A call gives the smallest that applies.
+#![tactic(auto)]
 
 ghost use Rattle.std.specs.Prelude.{◌≡◌, ◌+◌};
 ghost use Rattle.answers.specs.Done.{first_number, over};

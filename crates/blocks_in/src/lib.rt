@@ -1,5 +1,7 @@
 // Whole blocks put into the sponge (FIPS 202, chapter 4, algorithm 8, step 6). The lanes are taken to their places once, for all blocks of a piece, and
 // the round constants are bound once; a block is put in where the lanes stand.
+#![tactic(auto)]
+
 ghost use Rattle.std.specs.Prelude.{◌≡◌, ◌+◌, ◌*◌, ◌<◌, ◌≤◌, length, take, drop};
 ghost use Rattle.fips202.specs.Bytes.{xor_bytes};
 ghost use Rattle.encode.specs.Padding.{rate, whole_blocks};

@@ -1,5 +1,7 @@
 // Whole blocks taken out of the sponge (FIPS 202, chapter 4, algorithm 8, steps 8 and 10). As where blocks are put in, the lanes go to their places once,
 // for all blocks, and the round constants are bound once.
+#![tactic(auto)]
+
 ghost use Rattle.std.specs.Prelude.{◌≡◌, ◌+◌, ◌*◌};
 ghost use Rattle.std.proofs.lemmas.List.Edits.{sets};
 ghost use Rattle.fips202.specs.Fips202.{keccak_p};

@@ -1,4 +1,6 @@
 // What is done to strings of bytes, whatever they are for: combining by exclusive or, and comparing without a branch that the bytes steer.
+#![tactic(auto)]
+
 ghost use Rattle.std.specs.Prelude.{◌≡◌, min, length, take};
 ghost use Rattle.calls.specs.Start.{same_bytes};
 ghost use Rattle.byte_strings.specs.Combined.{combined};

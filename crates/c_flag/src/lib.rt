@@ -1,4 +1,6 @@
 // A bool as C sees it: 0 for false, 1 for true; read back, any number but 0 is true.
+#![tactic(auto)]
+
 ghost use Rattle.std.specs.Prelude.{◌≡◌};
 ghost use Rattle.c_flag.specs.Flag.{flag, is_set};
 

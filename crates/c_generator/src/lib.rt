@@ -1,5 +1,7 @@
 // The generators as C calls them (docs/RULES.md, 'Generators'): the entries of `generator`, on the state that C has. The crate `hailfeather` gives these
 // functions their names in C, for each of the two generators.
+#![tactic(auto)]
+
 ghost use Rattle.std.specs.Prelude.{◌≡◌, length};
 ghost use Rattle.drng.specs.Drng.{seed_answer, draw_answer, draw_output};
 ghost use Rattle.c_generator_state.specs.Generator.{imported_generator, exported_answer};

@@ -1,4 +1,6 @@
 // A generator's state as C has it (docs/RULES.md, 'Generators'): a plain struct, passed by value and handed back.
+#![tactic(auto)]
+
 ghost use Rattle.std.specs.Prelude.{◌≡◌};
 ghost use Rattle.drng.specs.State.{fresh_generator};
 ghost use Rattle.c_generator_state.specs.Generator.{imported_generator, exported_generator, exported_answer};

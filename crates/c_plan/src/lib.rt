@@ -1,6 +1,8 @@
 // The row of a chute in two plans and an ask of a walk as C has them (docs/RULES.md, 'Chute plan'): an offset, a length and the number of the plan, since no
 // reference can be handed to C; and of the next cursor of a walk only where it stands, since the rest is that of the cursor before. The crate `hailfeather`
 // gives the functions their names in C; the other questions on plans need no conversion.
+#![tactic(auto)]
+
 ghost use Rattle.std.specs.Prelude.{◌≡◌};
 ghost use Rattle.plan_pair.specs.Pair.{location_of};
 ghost use Rattle.plan_walk.specs.Walk.{walk_step};

@@ -1,5 +1,7 @@
 // Running sessions as C calls them (docs/RULES.md, 'Sessions'): the entries of `session`, on the session that C has. The crate `hailfeather` gives these
 // functions their names in C.
+#![tactic(auto)]
+
 ghost use Rattle.std.specs.Prelude.{◌≡◌, length};
 ghost use Rattle.calls.specs.Start.{named, keyed};
 ghost use Rattle.session_state.specs.Session.{begun, taking, giving, filled};

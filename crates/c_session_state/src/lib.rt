@@ -1,4 +1,6 @@
 // A session as C has it (docs/RULES.md, 'Sessions'): a plain struct, passed by value and handed back. The phase is a number, and its position stands beside it.
+#![tactic(auto)]
+
 ghost use Rattle.std.specs.Prelude.{◌≡◌};
 ghost use Rattle.c_session_state.specs.Session.{imported_phase, imported_session, phase_number, phase_position, exported_answer};
 

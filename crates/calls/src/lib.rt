@@ -1,5 +1,7 @@
 // The calls of cSHAKE256, KMAC256 and KMACXOF256: what each is refused for, what it feeds the permutation and how often that runs. Nearly all of it is
 // definitions, and stands in specs/; the code is the limits and the output's share of the count.
+#![tactic(auto)]
+
 ghost use Rattle.std.specs.Prelude.{◌≡◌};
 ghost use Rattle.calls.specs.Count.{output_runs};
 

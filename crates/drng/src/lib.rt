@@ -1,5 +1,7 @@
 // What both generators have (cSHAKE-DRNG, 1.1, and KMAC-DRNG, 1.2; docs/RULES.md, 'Generators'): the state, what a seeding or a draw hands back, and what
 // a draw is refused for. What keys and pieces are made of stands in specs/. A state is passed by value and handed back.
+#![tactic(auto)]
+
 ghost use Rattle.std.specs.Prelude.{◌≡◌};
 ghost use Rattle.drng.specs.State.{fresh_generator, refused, accepted};
 ghost use Rattle.drng.specs.Drng.{draw_refusal};

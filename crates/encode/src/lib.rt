@@ -1,5 +1,7 @@
 // Encoded numbers as SP 800-185, section 2.3.1, has them: right_encode and left_encode of any
 // number of 64 bits, and left_encode of 16 bits as one number. The definitions are those of specs/Encode.antt.
+#![tactic(auto)]
+
 ghost use Rattle.std.specs.Prelude.{◌≡◌, ◌+◌, ◌<◌, ◌≤◌, length};
 ghost use Rattle.encode.specs.Digits.{width};
 ghost use Rattle.encode.specs.Encode.{left_encode, right_encode};

@@ -1,5 +1,7 @@
 // The two generators (cSHAKE-DRNG, 1.1, and KMAC-DRNG, 1.2; docs/RULES.md, 'Generators'), of which the caller names one: a state is passed by value and handed
 // back, and a refusal hands back the state as it was and writes nothing.
+#![tactic(auto)]
+
 ghost use Rattle.std.specs.Prelude.{◌≡◌, ◌≤◌, length};
 ghost use Rattle.calls.specs.Limits.{max_additional};
 ghost use Rattle.pieces.specs.Pieces.{drawn};

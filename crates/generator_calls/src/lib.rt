@@ -1,5 +1,7 @@
 // The two calls that a generator is made of (cSHAKE-DRNG, 1.1.3 and 1.1.4, and KMAC-DRNG, 1.2.3 and 1.2.4), as the sponge runs them. Their contracts hold for
 // strings of every length: what is refused is decided above.
+#![tactic(auto)]
+
 ghost use Rattle.std.specs.Prelude.{length};
 ghost use Rattle.generator_calls.specs.GeneratorCalls.{KeyMade, PieceMade};
 

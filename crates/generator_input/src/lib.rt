@@ -1,5 +1,7 @@
 // The input of a generator's call (cSHAKE-DRNG, 1.1.2 to 1.1.4, and KMAC-DRNG, 1.2.2 to 1.2.4), as the sponge takes it, for strings of every length: its start,
 // and what stands after it.
+#![tactic(auto)]
+
 ghost use Rattle.std.specs.Prelude.{◌++◌};
 ghost use Rattle.start.specs.Started.{Starts};
 ghost use Rattle.message.specs.Message.{MessageAbsorbed};

@@ -1,4 +1,6 @@
 // The questions on a hall plan (docs/RULES.md, 'Hall plan'): what a caller has to lend to read it, and the destination of a chute.
+#![tactic(auto)]
+
 ghost use Rattle.std.specs.Prelude.{◌≡◌};
 ghost use Rattle.plan.specs.Answers.{no_destination};
 ghost use Rattle.hall.specs.Answers.{refused_summary, accepted_summary, hall_summary_of, hall_lookup_of};

@@ -1,4 +1,6 @@
 // Halls outside their bytes (docs/RULES.md, 'Hall plan'): whether an outermost number of entries and two lists of kinds and values keep the rules.
+#![tactic(auto)]
+
 mod checking; // checking.rt: the checkers of a hall and of an entry, over places inside the lists
 
 ghost use Rattle.std.specs.Prelude.{◌≡◌};

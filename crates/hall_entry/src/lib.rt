@@ -1,4 +1,6 @@
 // One entry of a hall plan (docs/RULES.md, 'Hall plan'): whether its kind may stand where it does, and the entry at a place.
+#![tactic(auto)]
+
 ghost use Rattle.std.specs.Prelude.{◌≡◌, drop};
 ghost use Rattle.plan_read.specs.Plan.{plan_number};
 ghost use Rattle.hall_entry.specs.Entries.{kind_allowed};

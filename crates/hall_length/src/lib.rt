@@ -1,4 +1,6 @@
 // The length of a hall plan (docs/RULES.md, 'Hall plan'): how many bytes the plan of an outermost number and two lists takes, or that they break the rules.
+#![tactic(auto)]
+
 ghost use Rattle.std.specs.Prelude.{◌≡◌, ◌+◌, ◌≤◌, length};
 ghost use Rattle.hall_check.specs.Lists.{pairs};
 ghost use Rattle.hall_length.specs.Written.{written_entries};

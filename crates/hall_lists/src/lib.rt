@@ -1,4 +1,6 @@
 // Reading a hall plan into two lent lists (docs/RULES.md, 'Hall plan'): each entry's kind, and its destination or its hall's number of entries.
+#![tactic(auto)]
+
 mod fill; // fill.rt: the stores, once the plan is known to be good and the lists to have its length
 
 ghost use Rattle.std.specs.Prelude.{◌≡◌, drop};

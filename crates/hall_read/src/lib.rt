@@ -1,5 +1,7 @@
 // Reading a hall plan (docs/RULES.md, 'Hall plan'): the hall reader and the entry reader, which call each other, and a hall plan read whole in one pass.
 // Recursion goes by level, eight deep at most; the entries of a hall are a loop.
+#![tactic(auto)]
+
 mod passing; // passing.rt: the two readers, over places inside the plan
 
 ghost use Rattle.std.specs.Prelude.{◌≡◌};

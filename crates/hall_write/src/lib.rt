@@ -1,4 +1,6 @@
 // Writing a hall plan (docs/RULES.md, 'Hall plan'): an outermost number and two lists written into a lent buffer that they fill exactly.
+#![tactic(auto)]
+
 use plan_length::PlanWritten;
 
 mod put; // put.rt: the stores, once it is known that there is room

@@ -1,5 +1,7 @@
 // Keccak-p[1600, 24] on 25 lanes of 64 bits (FIPS 202, chapter 3): the lane (x, y) is at 5 y + x, its low byte first. The rounds run in the state itself:
 // every row is written to the five places that it is read from, and there is no second set of lanes.
+#![tactic(auto)]
+
 ghost use Rattle.std.specs.Prelude.{◌≡◌};
 ghost use Rattle.fips202.specs.Fips202.{keccak_p};
 

@@ -1,5 +1,7 @@
 // An odd round in the state itself: the lane (x, y) stands at the place (2 x + y, 2 x + 3 y) before it, and at the place (x, y) after it. The places are in two
 // arrays, p those of columns 0, 2 and 4 and q those of columns 1 and 3.
+#![tactic(auto)]
+
 ghost use Rattle.std.specs.Prelude.{◌≡◌, [], ◌∷◌, ◌%◌, get_or};
 ghost use Rattle.in_place.specs.Places.{standing, lanes};
 ghost use Rattle.in_place.specs.Rows.{held_first_row};

@@ -1,6 +1,8 @@
 // From a state to its 25 places and back. The places are in two arrays: p has the columns 0, 2 and 4, row by row, and q the columns 1 and 3. A function that
 // is not inlined keeps the order of its reads and writes of two arrays, so that a row's lanes stay in registers and no others do. Lanes 1, 2, 8, 12, 17 and
 // 20 are held inverted.
+#![tactic(auto)]
+
 ghost use Rattle.std.specs.Prelude.{◌≡◌, length};
 ghost use Rattle.in_place.specs.Complemented.{complemented};
 ghost use Rattle.in_place.specs.Places.{standing, Known, lanes, even_columns, odd_columns};

@@ -1,4 +1,6 @@
 // The 24 rounds of Keccak-p[1600, 24] (FIPS 202, 3.3), two a turn, in the state itself: 25 places in two arrays, as keccak_places makes them.
+#![tactic(auto)]
+
 ghost use Rattle.std.specs.Prelude.{◌≡◌};
 ghost use Rattle.in_place.specs.Rounds.{RoundConstants, state_of, rounds_with};
 

@@ -1,6 +1,8 @@
 // The parts of a round on five lanes: θ's effect on the columns, and a row after it, by ρ and χ, of which some lanes are held inverted (FIPS 202, 3.2.1, 3.2.2
 // and 3.2.4). Lanes 1, 2, 8, 12, 17 and 20 stay inverted from round to round; θ, ρ and π take that to lanes 0, 2, 3, 5, 7, 10, 12, 16, 18, 19, 20 and 23, and
 // χ then needs 8 inversions and not 25. The order of the statements is what keeps a row in registers.
+#![tactic(auto)]
+
 ghost use Rattle.std.specs.Prelude.{◌≡◌, [], ◌∷◌, ◌<◌};
 ghost use Rattle.fips202.specs.Fips202.{rotl};
 ghost use Rattle.in_place.specs.Rows.{effect, held_row, held_first_row};

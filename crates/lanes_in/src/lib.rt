@@ -1,4 +1,6 @@
 // Bytes put into the lanes of a block by exclusive or (FIPS 202, B.1): single bytes, numbers of eight bytes, and pieces.
+#![tactic(auto)]
+
 ghost use Rattle.std.specs.Prelude.{◌≡◌, ◌+◌, ◌-◌, ◌*◌, ◌/◌, ◌%◌, ◌<◌, ◌≤◌, min, length, take, drop};
 ghost use Rattle.fips202.specs.Bytes.{xor_byte, xor_bytes};
 ghost use Rattle.encode.specs.Digits.{digits, number_of};

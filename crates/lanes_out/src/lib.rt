@@ -1,4 +1,6 @@
 // Bytes out of the lanes of a block (FIPS 202, B.1): single bytes, and runs of lanes.
+#![tactic(auto)]
+
 ghost use Rattle.std.specs.Prelude.{◌≡◌, ◌+◌, ◌-◌, ◌*◌, ◌%◌, ◌<◌, ◌≤◌, min, length};
 ghost use Rattle.std.proofs.lemmas.List.Edits.{sets};
 ghost use Rattle.fips202.specs.Bytes.{byte_at, bytes_at};

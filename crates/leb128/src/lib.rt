@@ -1,4 +1,6 @@
 // One seven-bit number (LEB128; docs/RULES.md, 'Chute plan'), read at a place.
+#![tactic(auto)]
+
 ghost use Rattle.std.specs.Prelude.{◌≡◌, true, false, drop, ◌%◌};
 ghost use Rattle.leb128.specs.Number.{number, next_group, groups};
 ghost use Rattle.leb128.specs.Answers.{ReadsNumber};

@@ -1,4 +1,6 @@
 // One seven-bit number (LEB128; docs/RULES.md, 'Chute plan'), written: how many bytes it takes, and writing it at a place of a lent buffer.
+#![tactic(auto)]
+
 mod put; // put.rt: the stores, once it is known that there is room
 
 ghost use Rattle.std.specs.Prelude.{◌≡◌, length};

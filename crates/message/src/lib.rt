@@ -1,5 +1,7 @@
 // The message of a call in three pieces, put into the sponge after the call's start, with the padding (FIPS 202, chapter 4). What a function puts after its
 // message, such as right_encode(0), is the last piece.
+#![tactic(auto)]
+
 ghost use Rattle.std.specs.Prelude.{◌≡◌, ◌++◌, ◌+◌, ◌/◌};
 ghost use Rattle.encode.specs.Padding.{rate};
 ghost use Rattle.message.specs.Message.{MessageAbsorbed};

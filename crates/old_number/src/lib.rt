@@ -1,5 +1,7 @@
 // A number by the old rule (docs/RULES.md, 'Migration'), under which a number may stand in more groups than it needs. The old rule is read here and in
 // `plan_migration`, for plans that are to be migrated, and nowhere else.
+#![tactic(auto)]
+
 ghost use Rattle.std.specs.Prelude.{◌≡◌, ◌%◌, get_or, drop};
 ghost use Rattle.leb128.specs.Answers.{ReadsNumber};
 ghost use Rattle.old_number.specs.OldNumber.{old_number};

@@ -1,4 +1,6 @@
 // A call in one go, after its start: the message and its ending put in, the input ended and the output squeezed, unless the call is refused.
+#![tactic(auto)]
+
 ghost use Rattle.std.specs.Prelude.{◌≡◌, ◌<◌, length};
 ghost use Rattle.encode.specs.Padding.{rate};
 ghost use Rattle.sponge.specs.Running.{running, absorbed};

@@ -1,4 +1,6 @@
 // Opening by the KMAC AEAD (KMAC AEAD, 1.2.5; docs/RULES.md, 'Sealing'). A refusal writes nothing, and the tag is compared before anything is written.
+#![tactic(auto)]
+
 ghost use Rattle.aead.specs.Aead.{seal_arguments};
 ghost use Rattle.aead.specs.Answers.{OpensInto};
 ghost use Rattle.seal.specs.Kmac.{kmac_aead};

@@ -1,5 +1,7 @@
 // A request for stream cut into pieces of 208 bytes, the last one cut (cSHAKE-DRNG, 1.1.5, and KMAC-DRNG, 1.2.5; docs/RULES.md, 'Generators'). What makes a
 // piece is a generator's own; the definitions and the laws that a generator's loop is proved by stand in specs/.
+#![tactic(auto)]
+
 ghost use Rattle.std.specs.Prelude.{◌≡◌};
 ghost use Rattle.pieces.specs.Pieces.{piece_count, cut};
 

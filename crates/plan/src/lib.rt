@@ -1,4 +1,6 @@
 // The questions on one chute plan (docs/RULES.md, 'Chute plan'): the number of its rows, the row of a chute, and the destination of a chute.
+#![tactic(auto)]
+
 ghost use Rattle.std.specs.Prelude.{◌≡◌};
 ghost use Rattle.plan.specs.Answers.{summary_of, has_chute, no_chute_row, chute_row_of, lookup_of};
 

@@ -1,4 +1,6 @@
 // The length of a chute plan (docs/RULES.md, 'Chute plan'): how many bytes the plan of some rows takes, or that the rows break the plan's rules.
+#![tactic(auto)]
+
 ghost use Rattle.std.specs.Prelude.{◌≡◌};
 ghost use Rattle.plan_length.specs.Length.{no_length, length_of, write_answer};
 

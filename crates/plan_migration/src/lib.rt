@@ -1,4 +1,6 @@
 // Migration (docs/RULES.md, 'Migration'): a chute plan read by the old rule and written by the present one. The rows are read twice and kept nowhere.
+#![tactic(auto)]
+
 use leb128::Number;
 use plan_length::{PlanLength, PlanWritten};
 

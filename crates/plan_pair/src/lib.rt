@@ -1,5 +1,7 @@
 // Where a chute's row is, in a site plan and a house plan lent together (docs/RULES.md, 'Chute plan'): in the site plan if it has that chute, else in
 // the house plan.
+#![tactic(auto)]
+
 ghost use Rattle.std.specs.Prelude.{◌≡◌, ◌≤◌};
 ghost use Rattle.plan_pair.specs.Pair.{location_in, refused_location, plan_refusal, smaller_of, plans_refused, location_of};
 

@@ -1,4 +1,6 @@
 // The bytes of a chute's row, in a site plan and a house plan lent together, as a part of the plan that they came from (docs/RULES.md, 'Chute plan').
+#![tactic(auto)]
+
 ghost use Rattle.std.specs.Prelude.{◌≡◌};
 ghost use Rattle.plan_part.specs.Part.{part_from, address_from, part_of, address_of, RowBytes};
 

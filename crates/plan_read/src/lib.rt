@@ -1,4 +1,6 @@
 // Reading a chute plan (docs/RULES.md, 'Chute plan'): its limits, the row reader, and a plan read whole in one pass.
+#![tactic(auto)]
+
 ghost use Rattle.std.specs.Prelude.{◌≡◌, drop};
 ghost use Rattle.answers.specs.Numbers.{malformed_plan};
 ghost use Rattle.plan_read.specs.Plan.{plan_number, rows_from, plan_of, plan_answer};

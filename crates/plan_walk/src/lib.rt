@@ -1,4 +1,6 @@
 // A walk over a plan's rows (docs/RULES.md, 'Chute plan', the walker): where it starts, and an ask where it stands, with the plan lent to each.
+#![tactic(auto)]
+
 ghost use Rattle.std.specs.Prelude.{◌≡◌};
 ghost use Rattle.plan_walk.specs.Walk.{first_row_at, stay, walk_start, walk_step};
 

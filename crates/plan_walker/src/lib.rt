@@ -1,4 +1,6 @@
 // The walker (docs/RULES.md, 'Chute plan'): keeps a lent plan and where it stands in it, and hands out the rows' destinations one after another.
+#![tactic(auto)]
+
 ghost use Rattle.std.specs.Prelude.{◌≡◌};
 ghost use Rattle.plan_walk.specs.Walk.{walk_start};
 ghost use Rattle.plan_walker.specs.Walker.{walker_at, asks, moved};

@@ -1,4 +1,6 @@
 // Writing a chute plan (docs/RULES.md, 'Chute plan'): rows written into a lent buffer that they fill exactly.
+#![tactic(auto)]
+
 use plan_length::PlanWritten;
 
 mod put; // put.rt: the stores, once it is known that there is room

@@ -1,5 +1,7 @@
 // What a start and a call in one go are refused for, as code tests it (docs/RULES.md, 'Numbers'). The definitions are those of `calls`; sessions and one-shot
 // calls share the start's.
+#![tactic(auto)]
+
 ghost use Rattle.std.specs.Prelude.{◌≡◌, cond, eqb};
 ghost use Rattle.answers.specs.Numbers.{done, reserved_name, bad_output_length};
 ghost use Rattle.calls.specs.Start.{is_reserved, named, keyed, start_refusal};

@@ -1,4 +1,6 @@
 // The bits rc(t) over their whole period, and the round constants that they make: FIPS 202, 3.2.5.
+#![tactic(auto)]
+
 ghost use Rattle.std.specs.Prelude.{◌≡◌};
 ghost use Rattle.fips202.specs.Fips202.{rc, round_constant};
 

@@ -1,4 +1,6 @@
 // Sealing by the KMAC AEAD (KMAC AEAD, 1.2.4; docs/RULES.md, 'Sealing'). A refusal writes nothing. The crate `open` opens what this one sealed.
+#![tactic(auto)]
+
 ghost use Rattle.aead.specs.Aead.{seal_arguments};
 ghost use Rattle.aead.specs.Answers.{Seals};
 ghost use Rattle.seal.specs.Kmac.{kmac_aead};

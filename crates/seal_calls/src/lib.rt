@@ -1,5 +1,7 @@
 // The two calls of KMACXOF256 that a seal of the KMAC AEAD is made of (KMAC AEAD, 1.2.2 and 1.2.3), as the sponge runs them. Their contracts hold for strings
 // of every length: what is refused is decided above.
+#![tactic(auto)]
+
 ghost use Rattle.std.specs.Prelude.{◌≡◌, ◌++◌, ◌+◌, length};
 ghost use Rattle.calls.specs.Count.{output_runs};
 ghost use Rattle.sponge.specs.Running.{running, squeezed, after};

@@ -1,5 +1,7 @@
 // A seeding of a generator as the call that it is made of (cSHAKE-DRNG, 1.1.3, and KMAC-DRNG, 1.2.3; docs/RULES.md, 'Generators'): its definition and its laws
 // stand in specs/, and the code is which generators there are, and what a seeding of either is refused for.
+#![tactic(auto)]
+
 ghost use Rattle.std.specs.Prelude.{◌≡◌};
 ghost use Rattle.seeding.specs.Seeding.{seed_lengths_refusal};
 

@@ -1,4 +1,6 @@
 // The end of a session's input (docs/RULES.md, 'Sessions'), and the sponge that the session gives from.
+#![tactic(auto)]
+
 ghost use Rattle.std.specs.Prelude.{◌≡◌, ◌%◌};
 ghost use Rattle.encode.specs.Padding.{rate};
 ghost use Rattle.sponge.specs.Running.{running, absorbed, finished};

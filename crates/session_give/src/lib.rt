@@ -1,4 +1,6 @@
 // A session gives output, in portions (docs/RULES.md, 'Sessions').
+#![tactic(auto)]
+
 ghost use Rattle.std.specs.Prelude.{◌≡◌, length};
 ghost use Rattle.session_state.specs.Session.{giving, filled};
 

@@ -1,4 +1,6 @@
 // A session begins (docs/RULES.md, 'Sessions'): cSHAKE256 by its name and customisation, KMACXOF256 by its key and customisation.
+#![tactic(auto)]
+
 ghost use Rattle.std.specs.Prelude.{◌≡◌};
 ghost use Rattle.calls.specs.Start.{named, keyed};
 ghost use Rattle.session_state.specs.Session.{begun};

@@ -1,5 +1,7 @@
 // A running session over cSHAKE256 or KMACXOF256 (docs/RULES.md, 'Sessions'), passed by value: what each call on it hands back is defined here
 // (specs/Session.antt), and the session that a start hands back is made.
+#![tactic(auto)]
+
 ghost use Rattle.std.specs.Prelude.{◌≡◌};
 ghost use Rattle.session_state.specs.Session.{started_session};
 

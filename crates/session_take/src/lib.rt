@@ -1,4 +1,6 @@
 // A session takes the message, in pieces (docs/RULES.md, 'Sessions').
+#![tactic(auto)]
+
 ghost use Rattle.std.specs.Prelude.{◌≡◌};
 ghost use Rattle.session_state.specs.Session.{taking};
 

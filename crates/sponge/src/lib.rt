@@ -1,5 +1,7 @@
 // The sponge with Keccak-p[1600, 24] at a rate of 136 bytes (FIPS 202, chapter 4), run piece by piece on lanes that the caller keeps, with the position of
 // the next byte in the block. A position at which the block is full, or beyond, is taken modulo 136 by the functions that put bytes in.
+#![tactic(auto)]
+
 ghost use Rattle.std.specs.Prelude.{◌≡◌, ◌-◌, ◌%◌, ◌<◌, length, drop, replicate};
 ghost use Rattle.std.proofs.lemmas.List.Edits.{sets};
 ghost use Rattle.encode.specs.Padding.{rate, shortfall};

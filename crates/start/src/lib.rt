@@ -1,4 +1,6 @@
 // How a call or a session starts: the bytes before the message put into the sponge (SP 800-185, 3.3 and 4.3), or the refusal numbers 2, 3 and 4.
+#![tactic(auto)]
+
 ghost use Rattle.calls.specs.Start.{named, keyed};
 ghost use Rattle.start.specs.Started.{Starts};
 

@@ -1,4 +1,6 @@
 // The version of this library, so that a header and an archive of different versions are told apart.
+#![tactic(auto)]
+
 ghost use Rattle.std.specs.Prelude.{◌≡◌};
 ghost use Rattle.version.specs.Version.{version};
 

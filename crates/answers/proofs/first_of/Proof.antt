@@ -10,11 +10,11 @@ some_first : (k later : ℕ) → (k ≡ 0 → ⊥) → k ≡ first_number k late
 some_first zero later some = absurd (some refl)
 some_first (suc k) later some = refl
 
-returns : tie.Need-returns
-returns c = rw c.if1.true
+returns : tie.Need-returns-then-number-eq-DONE
+returns c = rw c.if-number-eq-DONE.true
 
-returns_2 : tie.Need-returns-2
-returns_2 c = some_first _ _ c.if1.false
+returns_2 : tie.Need-returns
+returns_2 c = some_first _ _ c.if-number-eq-DONE.false
 
 pub first_of_spec : {M : Type 1} → statement M
 first_of_spec = tie.close (tie.spec returns returns_2)

@@ -4,11 +4,11 @@ use borrow.Author.Tests.{lt-ltb, le-ltb}
 use Rattle.answers.proofs.over.Statement.{statement}
 use Rattle.answers.proofs.over.Tie as tie
 
-returns : tie.Need-returns
-returns c = rw (lt-ltb _ _ c.if1.true)
+returns : tie.Need-returns-then-most-bytes
+returns c = rw (lt-ltb _ _ c.if-most-bytes.true)
 
-returns_2 : tie.Need-returns-2
-returns_2 c = rw (le-ltb _ _ c.if1.false)
+returns_2 : tie.Need-returns
+returns_2 c = rw (le-ltb _ _ c.if-most-bytes.false)
 
 pub over_spec : {M : Type 1} → statement M
 over_spec = tie.close (tie.spec returns returns_2)

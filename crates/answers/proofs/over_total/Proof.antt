@@ -6,19 +6,19 @@ use borrow.Author.Tests.{lt-ltb, le-ltb}
 use Rattle.answers.proofs.over_total.Statement.{statement}
 use Rattle.answers.proofs.over_total.Tie as tie
 
-returns : tie.Need-returns
+returns : tie.Need-returns-then-most-total
 returns c =
     let a = c.before.args in
     let h : a.most < a.total + a.more = omega arith in
     rw (lt-ltb _ _ h)
 
-returns_2 : tie.Need-returns-2
+returns_2 : tie.Need-returns-then-most-total-2
 returns_2 c =
     let a = c.before.before.args in
     let h : a.most < a.total + a.more = omega arith in
     rw (lt-ltb _ _ h)
 
-returns_3 : tie.Need-returns-3
+returns_3 : tie.Need-returns
 returns_3 c =
     let a = c.before.before.args in
     let h : a.total + a.more ≤ a.most = omega arith in

@@ -9,20 +9,20 @@ use Rattle.byte_strings.proofs.Combining.{Left, one_more, no_more}
 use Rattle.byte_strings.proofs.combine.Statement.{statement}
 use Rattle.byte_strings.proofs.combine.Tie as tie
 
-abbrev invariant-loop : tie.invariant-loop
+abbrev invariant-loop : tie.invariant-loop-i
 invariant-loop text out₀ n i₀ out i =
     (n ≡ min (length text) (length out₀)) × (i ≤ n) × (length out ≡ length out₀) × Left text out i (combined text out₀)
 
-abbrev decreases-loop : tie.decreases-loop
+abbrev decreases-loop : tie.decreases-loop-i
 decreases-loop text out₀ n i₀ out i = n - i
 
-loop_holds : tie.Need-loop-init invariant-loop decreases-loop
-loop_holds c = (c.shorter.ensures, omega arith, refl, refl)
+loop_holds : tie.Need-loop-i-init invariant-loop decreases-loop
+loop_holds c = (c.shorter-n.ensures, omega arith, refl, refl)
 
-loop_again : tie.Need-loop-preserved invariant-loop decreases-loop
+loop_again : tie.Need-loop-i-preserved invariant-loop decreases-loop
 loop_again c =
     let at = c.before.before.before in
-    let k = at.loop in
+    let k = at.loop-i in
     let a = at.before.before.before.before.args in
     let text = a.text.now in
     let ht : k.i < length text = omega arith in
@@ -31,7 +31,7 @@ loop_again c =
 
 returns : tie.Need-returns invariant-loop decreases-loop
 returns c =
-    let k = c.before.loop in
+    let k = c.before.loop-i in
     let a = c.before.before.before.before.before.args in
     let text = a.text.now in
     let end : min (length text) (length k.out) ≤ k.i = omega arith in

@@ -7,29 +7,29 @@ use Rattle.byte_strings.proofs.Comparing.{Differs, compared_none, one_more, comp
 use Rattle.byte_strings.proofs.same_beginning.Statement.{statement}
 use Rattle.byte_strings.proofs.same_beginning.Tie as tie
 
-abbrev invariant-loop : tie.invariant-loop
+abbrev invariant-loop : tie.invariant-loop-i
 invariant-loop tag bytes difference₀ i₀ difference i = (i ≤ length tag) × (length tag ≤ length bytes) × Differs tag bytes i difference
 
-abbrev decreases-loop : tie.decreases-loop
+abbrev decreases-loop : tie.decreases-loop-i
 decreases-loop tag bytes difference₀ i₀ difference i = length tag - i
 
-returns : tie.Need-returns invariant-loop decreases-loop
-returns c = compared_short c.before.args.tag.now c.before.args.bytes.now c.if1.true
+returns : tie.Need-returns-then-bytes-tag invariant-loop decreases-loop
+returns c = compared_short c.before.args.tag.now c.before.args.bytes.now c.if-bytes-tag.true
 
-loop_holds : tie.Need-loop-init invariant-loop decreases-loop
+loop_holds : tie.Need-loop-i-init invariant-loop decreases-loop
 loop_holds c = (omega arith, omega arith, compared_none _ _)
 
-loop_again : tie.Need-loop-preserved invariant-loop decreases-loop
+loop_again : tie.Need-loop-i-preserved invariant-loop decreases-loop
 loop_again c =
-    let k = c.before.before.before.loop in
+    let k = c.before.before.before.loop-i in
     let a = c.before.before.before.before.before.args in
     let ht : k.i < length a.tag.now = omega arith in
     let hb : k.i < length a.bytes.now = omega arith in
     (omega arith, omega arith, one_more a.tag.now a.bytes.now k.i k.difference ht hb k.invariant.2)
 
-returns_2 : tie.Need-returns-2 invariant-loop decreases-loop
+returns_2 : tie.Need-returns invariant-loop decreases-loop
 returns_2 c =
-    let k = c.before.loop in
+    let k = c.before.loop-i in
     compared_all c.before.before.before.args.tag.now c.before.before.before.args.bytes.now k.i k.difference (omega arith) k.invariant.2
 
 pub same_beginning_spec : {M : Type 1} → statement M

@@ -7,14 +7,14 @@ use lib.Dec.{eqb}
 use Rattle.c_flag.proofs.is_set.Statement.{statement}
 use Rattle.c_flag.proofs.is_set.Tie as tie
 
-returns : tie.Need-returns
+returns : tie.Need-returns-then-number-eq0
 returns c =
-    let unset : eqb c.before.args.number 0 ≡ true = eq-eqb _ _ c.if1.true in
+    let unset : eqb c.before.args.number 0 ≡ true = eq-eqb _ _ c.if-number-eq0.true in
     rw unset
 
-returns_2 : tie.Need-returns-2
+returns_2 : tie.Need-returns
 returns_2 c =
-    let set : eqb c.before.args.number 0 ≡ false = ne_eqb _ _ c.if1.false in
+    let set : eqb c.before.args.number 0 ≡ false = ne_eqb _ _ c.if-number-eq0.false in
     rw set
 
 pub is_set_spec : {M : Type 1} → statement M

@@ -16,10 +16,10 @@ returns c =
     let c1 = c2.before.before.before in
     let ce = c1.before.before.before in
     let cp = ce.before in
-    let a = cp.before.before.before.args in
-    round_made 0 (standing a.p.now a.q.now) _ _ _ _ _ a.t cp.parities.result ce.effect.result c.step0.result
+    let a = cp.before.args in
+    round_made 0 (standing a.p.now a.q.now) _ _ _ _ _ a.t cp.parities.result ce.effect-d.result c.step0.result
     (get_or a.k.now (a.i % 24) 0)
-    cp.parities.ensures ce.effect.ensures
+    cp.parities.ensures ce.effect-d.ensures
     c1.step4.ensures c2.step3.ensures c3.step1.ensures c4.step2.ensures c.step0.ensures.0 c.step0.ensures.1
 
 pub even_spec : {M : Type 1} → statement M

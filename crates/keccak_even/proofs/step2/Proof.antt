@@ -12,7 +12,7 @@ unfolding put taken
 returns c =
     let read5 = c.before in
     let a = read5.before.before.before.before.before.args in
-    row_passed 0 2 (a.d0 ∷ a.d1 ∷ a.d2 ∷ a.d3 ∷ a.d4 ∷ []) (standing a.p.now a.q.now) c.row2.result c.row2.ensures
+    row_passed 0 2 (a.d0 ∷ a.d1 ∷ a.d2 ∷ a.d3 ∷ a.d4 ∷ []) (standing a.p.now a.q.now) c.row2-e.result c.row2-e.ensures
 
 pub step2_spec : {M : Type 1} → statement M
 step2_spec =

@@ -7,7 +7,7 @@ use Rattle.keccak_odd.proofs.step0.Tie as tie
 
 returns : tie.Need-returns
 unfolding put taken
-returns c = (c.row0.ensures, refl)
+returns c = (c.row0-e.ensures, refl)
 
 pub step0_spec : {M : Type 1} → statement M
 step0_spec =

@@ -12,7 +12,7 @@ unfolding put taken
 returns c =
     let read5 = c.before in
     let a = read5.before.before.before.before.before.args in
-    row_passed 1 3 (a.d0 ∷ a.d1 ∷ a.d2 ∷ a.d3 ∷ a.d4 ∷ []) (standing a.p.now a.q.now) c.row3.result c.row3.ensures
+    row_passed 1 3 (a.d0 ∷ a.d1 ∷ a.d2 ∷ a.d3 ∷ a.d4 ∷ []) (standing a.p.now a.q.now) c.row3-e.result c.row3-e.ensures
 
 pub step3_spec : {M : Type 1} → statement M
 step3_spec =

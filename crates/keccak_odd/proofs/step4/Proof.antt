@@ -12,7 +12,7 @@ unfolding put taken
 returns c =
     let read5 = c.before in
     let a = read5.before.before.before.before.before.args in
-    row_passed 1 4 (a.d0 ∷ a.d1 ∷ a.d2 ∷ a.d3 ∷ a.d4 ∷ []) (standing a.p.now a.q.now) c.row4.result c.row4.ensures
+    row_passed 1 4 (a.d0 ∷ a.d1 ∷ a.d2 ∷ a.d3 ∷ a.d4 ∷ []) (standing a.p.now a.q.now) c.row4-e.result c.row4-e.ensures
 
 pub step4_spec : {M : Type 1} → statement M
 step4_spec =

@@ -10,7 +10,7 @@ returns c =
     let c3 = c4.before in
     let c2 = c3.before in
     let c1 = c2.before in
-    beside c1.before.args.t1 c4.rotl4.ensures c1.rotl.ensures c3.rotl3.ensures c.rotl5.ensures c2.rotl2.ensures
+    beside c1.before.args.c c4.rotl-4.ensures c1.rotl.ensures c3.rotl-3.ensures c.rotl-5.ensures c2.rotl-2.ensures
 
 pub effect_spec : {M : Type 1} → statement M
 effect_spec =

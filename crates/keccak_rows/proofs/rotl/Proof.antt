@@ -4,13 +4,13 @@ use Rattle.in_place.specs.Laws.Rotation.{shifts}
 use Rattle.keccak_rows.proofs.rotl.Statement.{statement}
 use Rattle.keccak_rows.proofs.rotl.Tie as tie
 
-shl_result : tie.Need-overflow-shl-result
+shl_result : tie.Need-overflow_shl-result
 shl_result c = search rules
 
-sub_result : tie.Need-overflow-sub-result
+sub_result : tie.Need-overflow_sub-result
 sub_result c = search rules
 
-shr_result : tie.Need-overflow-shr-result
+shr_result : tie.Need-overflow_shr-result
 shr_result c = search rules
 
 returns : tie.Need-returns

@@ -21,9 +21,9 @@ returns c =
     let c1 = c2.before in
     let a = c1.before.args in
     ap (λ (e : List ℕ). set e 0 (bit_xor (get_or e 0 0) a.k))
-    (chi_row0 a.a0 c1.rotl.result c2.rotl2.result c3.rotl3.result c.rotl4.result
+    (chi_row0 a.a0 c1.rotl-b1.result c2.rotl-b2.result c3.rotl-b3.result c.rotl-b4.result
     (five_bounded _ _ _ _ _ (omega arith) (omega arith) (omega arith) (omega arith) (omega arith))
-    ∙ ap (held_chi_row 0) (five {a0 = a.a0} refl c1.rotl.ensures c2.rotl2.ensures c3.rotl3.ensures c.rotl4.ensures))
+    ∙ ap (held_chi_row 0) (five {a0 = a.a0} refl c1.rotl-b1.ensures c2.rotl-b2.ensures c3.rotl-b3.ensures c.rotl-b4.ensures))
 
 pub row0_spec : {M : Type 1} → statement M
 row0_spec =

@@ -15,9 +15,9 @@ returns c =
     let c3 = c4.before in
     let c2 = c3.before in
     let c1 = c2.before in
-    chi_row3 c1.rotl.result c2.rotl2.result c3.rotl3.result c4.rotl4.result c.rotl5.result
+    chi_row3 c1.rotl-b0.result c2.rotl-b1.result c3.rotl-b2.result c4.rotl-b3.result c.rotl-b4.result
     (five_bounded _ _ _ _ _ (omega arith) (omega arith) (omega arith) (omega arith) (omega arith))
-    ∙ ap (held_chi_row 3) (five c1.rotl.ensures c2.rotl2.ensures c3.rotl3.ensures c4.rotl4.ensures c.rotl5.ensures)
+    ∙ ap (held_chi_row 3) (five c1.rotl-b0.ensures c2.rotl-b1.ensures c3.rotl-b2.ensures c4.rotl-b3.ensures c.rotl-b4.ensures)
 
 pub row3_spec : {M : Type 1} → statement M
 row3_spec =

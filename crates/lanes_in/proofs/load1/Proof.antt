@@ -6,14 +6,14 @@ use borrow.Author.Rules.{rules}
 use Rattle.lanes_in.proofs.load1.Statement.{statement}
 use Rattle.lanes_in.proofs.load1.Tie as tie
 
-shared_slice_read_result : tie.Need-shared-slice-read-result
+shared_slice_read_result : tie.Need-bounds-s-at
 shared_slice_read_result c = search rules
 
-cast_result : tie.Need-overflow-cast-result
-cast_result c = omega (arith, c.shared-slice-known.given c.before.args.at)
+cast_result : tie.Need-overflow_cast-result
+cast_result c = omega (arith, c.shared_slice_known-1.given c.before.args.at)
 
 returns : tie.Need-returns
-returns c = (sym (number_of-one c.before.args.at c.before.args.s.now), (c.shared-slice-known.given c.before.args.at).fits)
+returns c = (sym (number_of-one c.before.args.at c.before.args.s.now), (c.shared_slice_known-1.given c.before.args.at).fits)
 
 pub load1_spec : {M : Type 1} → statement M
 load1_spec = tie.close (tie.spec shared_slice_read_result cast_result returns)

@@ -8,16 +8,16 @@ use Rattle.lanes_in.proofs.load2.Tie as tie
 load1_requires : tie.Need-load1-requires
 load1_requires c κs = search rules
 
-add_load1 : tie.Need-overflow-add-load1
+add_load1 : tie.Need-overflow_add-at
 add_load1 c = search rules
 
 load1_requires_2 : tie.Need-load1-requires-2
 load1_requires_2 c κs = search rules
 
-mul_result : tie.Need-overflow-mul-result
+mul_result : tie.Need-overflow_mul-result
 mul_result c = search rules
 
-add_result : tie.Need-overflow-add-result
+add_result : tie.Need-overflow_add-result
 add_result c = search rules
 
 returns : tie.Need-returns

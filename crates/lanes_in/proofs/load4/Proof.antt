@@ -8,16 +8,16 @@ use Rattle.lanes_in.proofs.load4.Tie as tie
 load2_requires : tie.Need-load2-requires
 load2_requires c κs = search rules
 
-add_load2 : tie.Need-overflow-add-load2
+add_load2 : tie.Need-overflow_add-at
 add_load2 c = search rules
 
 load2_requires_2 : tie.Need-load2-requires-2
 load2_requires_2 c κs = search rules
 
-mul_result : tie.Need-overflow-mul-result
+mul_result : tie.Need-overflow_mul-result
 mul_result c = search rules
 
-add_result : tie.Need-overflow-add-result
+add_result : tie.Need-overflow_add-result
 add_result c = search rules
 
 returns : tie.Need-returns

@@ -8,16 +8,16 @@ use Rattle.lanes_in.proofs.load8.Tie as tie
 load4_requires : tie.Need-load4-requires
 load4_requires c κs = search rules
 
-add_load4 : tie.Need-overflow-add-load4
+add_load4 : tie.Need-overflow_add-at
 add_load4 c = search rules
 
 load4_requires_2 : tie.Need-load4-requires-2
 load4_requires_2 c κs = search rules
 
-mul_result : tie.Need-overflow-mul-result
+mul_result : tie.Need-overflow_mul-result
 mul_result c = search rules
 
-add_result : tie.Need-overflow-add-result
+add_result : tie.Need-overflow_add-result
 add_result c = search rules
 
 returns : tie.Need-returns

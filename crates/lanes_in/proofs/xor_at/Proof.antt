@@ -7,22 +7,22 @@ use Rattle.fips202.specs.Bytes.{xor_byte}
 use Rattle.lanes_in.proofs.xor_at.Statement.{statement}
 use Rattle.lanes_in.proofs.xor_at.Tie as tie
 
-mul_lanes : tie.Need-overflow-mul-lanes
+mul_lanes : tie.Need-offset_bounds-lanes-p
 mul_lanes c = search rules
 
-element_copy_out_lanes : tie.Need-element-copy-out-lanes
+element_copy_out_lanes : tie.Need-bounds-lanes-p
 element_copy_out_lanes c = search rules
 
-mul_lanes_2 : tie.Need-overflow-mul-lanes-2
+mul_lanes_2 : tie.Need-overflow_mul-lanes
 mul_lanes_2 c = search rules
 
-shl_lanes : tie.Need-overflow-shl-lanes
+shl_lanes : tie.Need-overflow_shl-lanes
 shl_lanes c = search rules
 
-mul_lanes_3 : tie.Need-overflow-mul-lanes-3
+mul_lanes_3 : tie.Need-offset_bounds-lanes-p-2
 mul_lanes_3 c = search rules
 
-element_write_lanes : tie.Need-element-write-lanes
+element_write_lanes : tie.Need-bounds-lanes-p-2
 element_write_lanes c = search rules
 
 returns : tie.Need-returns

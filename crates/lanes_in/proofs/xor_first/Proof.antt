@@ -9,7 +9,7 @@ returns : tie.Need-returns
 returns c =
     let known = c.before.before in
     let a = known.before.args in
-    rw c.load8.ensures (first_put a.s.now a.lanes.now a.p a.at (omega arith) (λ j. (known.shared-slice-known.given j).fits))
+    rw c.load8.ensures (first_put a.s.now a.lanes.now a.p a.at (omega arith) (λ j. (known.shared_slice_known-1.given j).fits))
 
 pub xor_first_spec : {M : Type 1} → statement M
 xor_first_spec =

@@ -6,11 +6,11 @@ use Rattle.fips202.specs.Bytes.{xor_bytes}
 use Rattle.lanes_in.proofs.xor_in.Statement.{statement}
 use Rattle.lanes_in.proofs.xor_in.Tie as tie
 
-no_room : tie.Need-returns
+no_room : tie.Need-returns-then-p-ge-RATE
 unfolding xor_bytes
 no_room c = (omega arith, refl)
 
-no_bytes : tie.Need-returns-2
+no_bytes : tie.Need-returns-then-s-at
 unfolding xor_bytes
 no_bytes c = (omega arith, refl)
 

@@ -11,7 +11,7 @@ returns c =
     let a = known.before.args in
     rw c.load8.ensures
     (last_put a.s.now a.lanes.now a.p a.end a.n (omega arith) (omega arith) (omega arith) (omega arith)
-    (λ j. (known.shared-slice-known.given j).fits))
+    (λ j. (known.shared_slice_known-1.given j).fits))
 
 pub xor_last_spec : {M : Type 1} → statement M
 xor_last_spec =

@@ -6,26 +6,26 @@ use Rattle.fips202.specs.Bytes.{bytes_at}
 use Rattle.lanes_out.proofs.put_out.Statement.{statement}
 use Rattle.lanes_out.proofs.put_out.Tie as tie
 
-no_room : tie.Need-returns
+no_room : tie.Need-returns-then-p-ge-RATE
 unfolding bytes_at
 no_room c = (omega arith, refl)
 
-no_bytes : tie.Need-returns-2
+no_bytes : tie.Need-returns-then-out-at
 unfolding bytes_at
 no_bytes c = (omega arith, refl)
 
-last_bytes : tie.Need-returns-3
-last_bytes c = (omega arith, c.before.before.put_some_lem.ensures)
+last_bytes : tie.Need-returns-then-left-p
+last_bytes c = (omega arith, c.before.before.put_some.ensures)
 
-whole_block : tie.Need-returns-4
+whole_block : tie.Need-returns-then-p-eq0
 whole_block c =
     let put = c.before.before in
     let branch = put.before.before.before in
     let z : branch.before.before.before.before.args.p ≡ 0 = omega arith in
-    (omega arith, rw z put.put-lanes.ensures)
+    (omega arith, rw z put.put_lanes.ensures)
 
-rest_of_block : tie.Need-returns-5
-rest_of_block c = (omega arith, c.before.before.put-some2.ensures)
+rest_of_block : tie.Need-returns
+rest_of_block c = (omega arith, c.before.before.put_some-2.ensures)
 
 pub put_out_spec : {M : Type 1} → statement M
 put_out_spec =

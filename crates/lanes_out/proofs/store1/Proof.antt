@@ -4,13 +4,13 @@ use borrow.Author.Rules.{rules}
 use Rattle.lanes_out.proofs.store1.Statement.{statement}
 use Rattle.lanes_out.proofs.store1.Tie as tie
 
-cast_out : tie.Need-overflow-cast-out
+cast_out : tie.Need-overflow_cast-out
 cast_out c = search rules
 
-slice_write_out : tie.Need-slice-write-out
+slice_write_out : tie.Need-bounds-out-at
 slice_write_out c = search rules
 
-same_length : tie.Need-same-length
+same_length : tie.Need-shape_of-out
 same_length c = search rules
 
 returns : tie.Need-returns

@@ -8,40 +8,40 @@ use Rattle.leb128.proofs.Reading.{read_value, read_bad, group_end, group_last, g
 use Rattle.leb128.proofs.number_at.Statement.{statement}
 use Rattle.leb128.proofs.number_at.Tie as tie
 
-returns : tie.Need-returns
+returns : tie.Need-returns-then-bytes-at
 returns c =
     let a = c.before.before.args in
-    read_bad _ _ (group_end true 2 a.at 0 a.bytes.now c.if1.true)
+    read_bad _ _ (group_end true 2 a.at 0 a.bytes.now c.if-bytes-at.true)
 
-shared_slice_read_wide : tie.Need-shared-slice-read-wide
+shared_slice_read_wide : tie.Need-bounds-bytes-at
 shared_slice_read_wide c = search rules
 
-wide_requires : tie.Need-wide-requires
+wide_requires : tie.Need-wide-first-requires
 wide_requires c κs = search rules
 
-add_t8 : tie.Need-overflow-add-t8
+add_t8 : tie.Need-overflow_add-result
 add_t8 c = search rules
 
-returns_2 : tie.Need-returns-2
+returns_2 : tie.Need-returns-then-first-lt128
 returns_2 c =
     let w = c.before in
     let a = w.before.before.before.before.args in
     read_value _ _ _ _
-    (group_last true 2 a.at w.wide.result a.bytes.now w.before.before.if1.false w.wide.ensures
-    c.if2.true refl)
+    (group_last true 2 a.at w.wide-first.result a.bytes.now w.before.before.if-bytes-at.false w.wide-first.ensures
+    c.if-first-lt128.true refl)
 
-add_second_at : tie.Need-overflow-add-second-at
+add_second_at : tie.Need-overflow_add-at
 add_second_at c = search rules
 
-second_at_requires : tie.Need-second-at-requires
+second_at_requires : tie.Need-second_at-requires
 second_at_requires c κs = search rules
 
-returns_3 : tie.Need-returns-3
+returns_3 : tie.Need-returns
 returns_3 c =
     let w = c.before.before in
     let a = w.before.before.before.before.args in
     subst (λ (p : Parsed). ReadsNumber p c.second_at.result)
-    (group_more true 1 a.at w.wide.result a.bytes.now w.before.before.if1.false w.wide.ensures c.before.if2.false)
+    (group_more true 1 a.at w.wide-first.result a.bytes.now w.before.before.if-bytes-at.false w.wide-first.ensures c.before.if-first-lt128.false)
     c.second_at.ensures
 
 pub number_at_spec : {M : Type 1} → statement M

@@ -11,60 +11,60 @@ use Rattle.leb128.proofs.Reading.{read_value, read_bad, group_end, group_last, g
 use Rattle.leb128.proofs.second_at.Statement.{statement}
 use Rattle.leb128.proofs.second_at.Tie as tie
 
-returns : tie.Need-returns
+returns : tie.Need-returns-then-bytes-at
 returns c =
     let a = c.before.before.args in
     read_bad _ _ (ap (λ (q : Parsed). next_group (a.first % 128) q)
-    (group_end false 1 a.at 0 a.bytes.now c.if1.true))
+    (group_end false 1 a.at 0 a.bytes.now c.if-bytes-at.true))
 
-shared_slice_read_wide : tie.Need-shared-slice-read-wide
+shared_slice_read_wide : tie.Need-bounds-bytes-at
 shared_slice_read_wide c = search rules
 
-wide_requires : tie.Need-wide-requires
+wide_requires : tie.Need-wide-group-requires
 wide_requires c κs = search rules
 
-returns_2 : tie.Need-returns-2
+returns_2 : tie.Need-returns-then-group-eq0
 returns_2 c =
     let w = c.before.before in
     let a = w.before.before.before.before.args in
-    let over = le-ltb 0 w.wide.result (omega (arith, c.if3.true)) in
+    let over = le-ltb 0 w.wide-group.result (omega (arith, c.if-group-eq0.true)) in
     read_bad _ _
     (ap (λ (q : Parsed). next_group (a.first % 128) q)
-    (group_empty false 1 a.at w.wide.result a.bytes.now w.before.before.if1.false w.wide.ensures
-    c.before.if2.true over))
+    (group_empty false 1 a.at w.wide-group.result a.bytes.now w.before.before.if-bytes-at.false w.wide-group.ensures
+    c.before.if-group-lt128.true over))
 
-mul_t11 : tie.Need-overflow-mul-t11
+mul_t11 : tie.Need-overflow_mul-result
 mul_t11 c = search rules
 
-add_t12 : tie.Need-overflow-add-t12
+add_t12 : tie.Need-overflow_add-result
 add_t12 c = search rules
 
-add_t13 : tie.Need-overflow-add-t13
+add_t13 : tie.Need-overflow_add-result-then-group-lt128
 add_t13 c = search rules
 
-returns_3 : tie.Need-returns-3
+returns_3 : tie.Need-returns-then-group-lt128
 returns_3 c =
     let w = c.before.before in
     let a = w.before.before.before.before.args in
-    let g = w.wide.result in
-    let ok = lt-ltb 0 g (omega (arith, c.if3.false)) in
+    let g = w.wide-group.result in
+    let ok = lt-ltb 0 g (omega (arith, c.if-group-eq0.false)) in
     read_value _ _ _ _
     (ap (λ (q : Parsed). next_group (a.first % 128) q)
-    (group_last false 1 a.at g a.bytes.now w.before.before.if1.false w.wide.ensures
-    c.before.if2.true ok))
+    (group_last false 1 a.at g a.bytes.now w.before.before.if-bytes-at.false w.wide-group.ensures
+    c.before.if-group-lt128.true ok))
 
-add_third_at : tie.Need-overflow-add-third-at
+add_third_at : tie.Need-overflow_add-at
 add_third_at c = search rules
 
-third_at_requires : tie.Need-third-at-requires
+third_at_requires : tie.Need-third_at-requires
 third_at_requires c κs = search rules
 
-returns_4 : tie.Need-returns-4
+returns_4 : tie.Need-returns
 returns_4 c =
     let w = c.before.before in
     let a = w.before.before.before.before.args in
     subst (λ (p : Parsed). ReadsNumber (next_group (a.first % 128) p) c.third_at.result)
-    (group_more false 0 a.at w.wide.result a.bytes.now w.before.before.if1.false w.wide.ensures c.before.if2.false)
+    (group_more false 0 a.at w.wide-group.result a.bytes.now w.before.before.if-bytes-at.false w.wide-group.ensures c.before.if-group-lt128.false)
     c.third_at.ensures
 
 pub second_at_spec : {M : Type 1} → statement M

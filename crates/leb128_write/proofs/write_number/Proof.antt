@@ -13,57 +13,57 @@ use Rattle.leb128_write.proofs.write_number.Statement.{statement}
 use Rattle.leb128_write.proofs.write_number.Tie as tie
 
 -- the length that was asked for, and the function
-abbrev asked : tie.Else1 → tie.After-number-length
+abbrev asked : tie.Else-length-eq0 → tie.After-number_length-length
 asked c = c.before
 
-abbrev start : tie.After-number-length → tie.Start
+abbrev start : tie.After-number_length-length → tie.Start
 start n = n.before.before
 
 -- past the first test, the number is not above the largest
-known : (c : tie.Else1) → let a = (start (asked c)).args in (a.value ≤ max_number) × ((asked c).number-length.result ≡ length (written_number a.value))
-known c = let n = (asked c).number-length in length_known (start (asked c)).args.value n.result n.ensures c.if1.false
+known : (c : tie.Else-length-eq0) → let a = (start (asked c)).args in (a.value ≤ max_number) × ((asked c).number_length-length.result ≡ length (written_number a.value))
+known c = let n = (asked c).number_length-length in length_known (start (asked c)).args.value n.result n.ensures c.if-length-eq0.false
 
 -- past all tests there is room
-room : (c : tie.Else3) → let a = (start (asked c.before.before)).args in a.at + length (written_number a.value) ≤ length a.out.now
-room c = let k = known c.before.before in omega (arith, k.1, c.before.if2.false, c.if3.false)
+room : (c : tie.Else-out-at-2) → let a = (start (asked c.before.before)).args in a.at + length (written_number a.value) ≤ length a.out.now
+room c = let k = known c.before.before in omega (arith, k.1, c.before.if-out-at.false, c.if-out-at-2.false)
 
-number_length_requires : tie.Need-number-length-requires
+number_length_requires : tie.Need-number_length-length-requires
 number_length_requires c κs = search rules
 
-returns : tie.Need-returns
+returns : tie.Need-returns-then-length-eq0
 returns c =
     let n = c.before in
-    none_large (start n).args.at (start n).args.value (start n).args.out.now (sym c.if1.true ∙ n.number-length.ensures)
+    none_large (start n).args.at (start n).args.value (start n).args.out.now (sym c.if-length-eq0.true ∙ n.number_length-length.ensures)
 
-returns_2 : tie.Need-returns-2
+returns_2 : tie.Need-returns-then-out-at
 returns_2 c =
     let a = (start (asked c.before)).args in
     let k = known c.before in
-    none_room a.at a.value a.out.now k.0 (omega (arith, c.if2.true))
+    none_room a.at a.value a.out.now k.0 (omega (arith, c.if-out-at.true))
 
-sub_if3 : tie.Need-overflow-sub-if3
+sub_if3 : tie.Need-overflow_sub-out
 sub_if3 c = search rules
 
-returns_3 : tie.Need-returns-3
+returns_3 : tie.Need-returns-then-out-at-2
 returns_3 c =
     let a = (start (asked c.before.before)).args in
     let k = known c.before.before in
-    none_room a.at a.value a.out.now k.0 (omega (arith, k.1, c.before.if2.false, c.if3.true))
+    none_room a.at a.value a.out.now k.0 (omega (arith, k.1, c.before.if-out-at.false, c.if-out-at-2.true))
 
-put_groups_requires : tie.Need-put-groups-requires
+put_groups_requires : tie.Need-put_groups-requires
 put_groups_requires c κs = record { small = (known c.before.before.before).0; room = room c.before }
 
-same_length : tie.Need-same-length
+same_length : tie.Need-shape_of-out
 same_length c = search rules
 
-returns_4 : tie.Need-returns-4
+returns_4 : tie.Need-returns
 returns_4 c =
     let put = c.before.before in
     let e = put.before.before in
     let a = (start (asked e.before.before)).args in
     let h = (known e.before.before).0 in (
-      put.put-groups.ensures.0 ∙ sym (past_written a.at a.value h a.out.now (room e)),
-      put.put-groups.ensures.1 ∙ sym (is_written a.at a.value h a.out.now (room e)),
+      put.put_groups.ensures.0 ∙ sym (past_written a.at a.value h a.out.now (room e)),
+      put.put_groups.ensures.1 ∙ sym (is_written a.at a.value h a.out.now (room e)),
     )
 
 pub write_number_spec : {M : Type 1} → statement M

@@ -5,11 +5,11 @@ use Rattle.pieces.specs.Pieces.{piece_count}
 use Rattle.pieces.proofs.piece_count.Statement.{statement}
 use Rattle.pieces.proofs.piece_count.Tie as tie
 
-returns : tie.Need-returns
+returns : tie.Need-returns-then-bytes-eq0
 unfolding piece_count
 returns c = omega arith
 
-returns_2 : tie.Need-returns-2
+returns_2 : tie.Need-returns-else-bytes-eq0
 unfolding piece_count
 returns_2 c = omega arith
 

@@ -6,25 +6,25 @@ use borrow.Author.Rules.{rules}
 use Rattle.plan_read.proofs.row_at.Statement.{statement}
 use Rattle.plan_read.proofs.row_at.Tie as tie
 
-abbrev start : tie.After-number-at → tie.Start
+abbrev start : tie.After-number_at → tie.Start
 start n = n.before.before
 
-number_at_requires : tie.Need-number-at-requires
+number_at_requires : tie.Need-number_at-requires
 number_at_requires c κs = search rules
 
-enum_known_value : tie.Need-enum-known-value
+enum_known_value : tie.Need-enum_known-value
 enum_known_value c = search rules
 
-enum_known_place : tie.Need-enum-known-place
+enum_known_place : tie.Need-enum_known-place
 enum_known_place c = search rules
 
-returns : tie.Need-returns
+returns : tie.Need-returns-in-Value
 returns c =
     let m = c.before in
     let n = m.before.before in
     read_row (start n).args.at _ _ _ n.number_at.ensures.answer (ap (row_number (start n).args.at) m.value.given.1)
 
-returns_2 : tie.Need-returns-2
+returns_2 : tie.Need-returns-in-Bad
 returns_2 c =
     let m = c.before in
     let n = m.before.before in

@@ -4,11 +4,11 @@ use borrow.Author.Tests.{eq-eqb, ne_eqb}
 use Rattle.refusals.proofs.empty.Statement.{statement}
 use Rattle.refusals.proofs.empty.Tie as tie
 
-returns : tie.Need-returns
-returns c = rw (eq-eqb _ _ c.if1.true)
+returns : tie.Need-returns-then-out-eq0
+returns c = rw (eq-eqb _ _ c.if-out-eq0.true)
 
-returns_2 : tie.Need-returns-2
-returns_2 c = rw (ne_eqb _ _ c.if1.false)
+returns_2 : tie.Need-returns
+returns_2 c = rw (ne_eqb _ _ c.if-out-eq0.false)
 
 pub empty_spec : {M : Type 1} → statement M
 empty_spec = tie.close (tie.spec returns returns_2)

@@ -7,7 +7,7 @@ use Rattle.refusals.proofs.keyed_refusal.Tie as tie
 
 returns : tie.Need-returns
 unfolding start_refusal
-returns c = simp (c.first_of.ensures, c.before.over2.ensures, c.before.before.over.ensures)
+returns c = simp (c.first_of.ensures, c.before.over-long_string.ensures, c.before.before.over-long_key.ensures)
 
 pub keyed_refusal_spec : {M : Type 1} → statement M
 keyed_refusal_spec = tie.close (tie.spec (λ c κs. search rules) (λ c κs. search rules) (λ c κs. search rules) returns)

@@ -23,7 +23,7 @@ returns c =
     let tested = c.before in
     let a = tested.before.before.args in
     c.first_of.ensures
-    ∙ ap₂ first_number tested.before.extendable-refusal.ensures tested.empty.ensures
+    ∙ ap₂ first_number tested.before.extendable_refusal-lengths.ensures tested.empty-none.ensures
     ∙ chain a.start (message_refusal a.message) (over a.out max_output bad_output_length) (cond (eqb a.out 0) bad_output_length done)
 
 pub kmac256_refusal_spec : {M : Type 1} → statement M

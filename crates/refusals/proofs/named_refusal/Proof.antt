@@ -9,11 +9,11 @@ returns : tie.Need-returns
 unfolding start_refusal
 returns c =
     simp (
-      c.first-of2.ensures,
+      c.first_of-2.ensures,
       c.before.first_of.ensures,
-      c.before.before.reserved.ensures,
-      c.before.before.before.over2.ensures,
-      c.before.before.before.before.over.ensures,
+      c.before.before.reserved-known.ensures,
+      c.before.before.before.over-long_customisation.ensures,
+      c.before.before.before.before.over-long_name.ensures,
     )
 
 pub named_refusal_spec : {M : Type 1} → statement M

@@ -7,11 +7,11 @@ use Rattle.calls.specs.Laws.Refusal.{same_bytes-is}
 use Rattle.refusals.proofs.reserved.Statement.{statement}
 use Rattle.refusals.proofs.reserved.Tie as tie
 
-returns : tie.Need-returns
-returns c = let s = c.before.same in simp (sym (same_bytes-is s.result _ KMAC s.ensures) ∙ c.if1.true)
+returns : tie.Need-returns-then-same
+returns c = let s = c.before.same in simp (sym (same_bytes-is s.result _ KMAC s.ensures) ∙ c.if-same.true)
 
-returns_2 : tie.Need-returns-2
-returns_2 c = let s = c.before.same in simp (sym (same_bytes-is s.result _ KMAC s.ensures) ∙ c.if1.false)
+returns_2 : tie.Need-returns
+returns_2 c = let s = c.before.same in simp (sym (same_bytes-is s.result _ KMAC s.ensures) ∙ c.if-same.false)
 
 pub reserved_spec : {M : Type 1} → statement M
-reserved_spec = tie.close (tie.spec (λ c. search rules) (λ c κs. search rules) returns returns_2)
+reserved_spec = tie.close (tie.spec (λ c κs. search rules) returns returns_2)

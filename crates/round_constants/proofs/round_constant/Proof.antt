@@ -16,7 +16,7 @@ returns c =
     let c2 = c3.before in
     let c1 = c2.before in
     assembled_is c1.before.args.i _ _ _ _ _ _ _
-    c1.rc.ensures c2.rc2.ensures c3.rc3.ensures c4.rc4.ensures c5.rc5.ensures c6.rc6.ensures c.rc7.ensures
+    c1.rc-b0.ensures c2.rc-b1.ensures c3.rc-b2.ensures c4.rc-b3.ensures c5.rc-b4.ensures c6.rc-b5.ensures c.rc-b6.ensures
 
 pub round_constant_spec : {M : Type 1} → statement M
 round_constant_spec =

@@ -4,17 +4,17 @@ use Rattle.seeding.specs.Seeding.{seed_lengths_refusal}
 use Rattle.seeding.proofs.seed_refusal.Statement.{statement}
 use Rattle.seeding.proofs.seed_refusal.Tie as tie
 
-returns : tie.Need-returns
+returns : tie.Need-returns-then-personalisation-gt-MAX_PERSONALISATION
 unfolding seed_lengths_refusal
-returns c = rw (lt-ltb _ _ c.if1.true)
+returns c = rw (lt-ltb _ _ c.if-personalisation-gt-MAX_PERSONALISATION.true)
 
-returns_2 : tie.Need-returns-2
+returns_2 : tie.Need-returns-then-seed-gt-MAX_SEED
 unfolding seed_lengths_refusal
-returns_2 c = rw (le-ltb _ _ c.before.if1.false, lt-ltb _ _ c.if2.true)
+returns_2 c = rw (le-ltb _ _ c.before.if-personalisation-gt-MAX_PERSONALISATION.false, lt-ltb _ _ c.if-seed-gt-MAX_SEED.true)
 
-returns_3 : tie.Need-returns-3
+returns_3 : tie.Need-returns
 unfolding seed_lengths_refusal
-returns_3 c = rw (le-ltb _ _ c.before.if1.false, le-ltb _ _ c.if2.false)
+returns_3 c = rw (le-ltb _ _ c.before.if-personalisation-gt-MAX_PERSONALISATION.false, le-ltb _ _ c.if-seed-gt-MAX_SEED.false)
 
 pub seed_refusal_spec : {M : Type 1} → statement M
 seed_refusal_spec = tie.close (tie.spec returns returns_2 returns_3)
