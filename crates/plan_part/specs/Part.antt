@@ -28,7 +28,7 @@ part_of site house l = part_in l.source site house l.start l.length
 
 -- and where they stand: a part of the plan they came from, at their place in it
 abbrev pub address_in : Source → Bor (List ℕ) → Bor (List ℕ) → ℕ → ℕ → ℕ × ℕ
-address_in Neither site house start n = site.ptr
+address_in Neither site house start n = site.ref_ptr
 address_in Site site house start n = address_from site start n
 address_in House site house start n = address_from house start n
 

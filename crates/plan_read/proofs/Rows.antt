@@ -9,31 +9,15 @@ use lib.Dec.{eqb}
 use borrow.Author.Tests.{eq-eqb, ne_eqb}
 use Rattle.answers.specs.Numbers.{malformed_plan}
 use Rattle.leb128.specs.Number.{Parsed, value, bad, groups}
-use Rattle.leb128.specs.Answers.{number_answer}
 use Rattle.leb128.specs.Laws.Reading.{Rest, groups_rest}
-use Rattle.leb128.specs.declared.Number.{Number}
-use Rattle.leb128.specs.declared.Number.TheVariants.{Value, Bad}
 use Rattle.plan_read.specs.Plan.{plan_number, row, row_answer, Plan, rows, refused, cons_row, rows_from, no_row}
 use Rattle.plan_read.specs.Plan.{row_at, plan_answer}
 use Rattle.plan_read.specs.Laws.Reading.{rows_more, rows_bad, rows_over, rows_end}
-use Rattle.plan_read.specs.Answers.{ReadsRow, parsed_row}
+use Rattle.plan_read.specs.Answers.{parsed_row}
 use Rattle.plan_read.specs.declared.Row.{Row}
-use Rattle.plan_read.specs.declared.RowRead.{RowRead}
 use Rattle.plan_read.specs.declared.RowRead.TheVariants.{Found, NotRow}
 use Rattle.plan_read.specs.declared.PlanRead.{PlanRead}
 use Rattle.plan_read.specs.declared.PlanRead.TheVariants.{Rows, Refused}
-
-abbrev pub row_number : ℕ → Number → RowRead
-row_number at (Value v next) = Found (row v at next)
-row_number at (Bad place) = NotRow place
-
--- the row reader's answer, by the number read
-pub read_row : (at : ℕ) (p : Parsed) (n : Number) (r : RowRead) → n ≡ number_answer p → row_number at n ≡ r → ReadsRow at p r
-read_row at p n r e q = rw (← q, e) (go p)
-  where
-    go : (p : Parsed) → ReadsRow at p (row_number at (number_answer p))
-    go (value v next rest) = record { answer = refl; values = refl }
-    go (bad place) = record { answer = refl; values = refl }
 
 row_known : (at : ℕ) (s : List ℕ) (p : Parsed) (r : Row) → Rest at s p → row_answer at p ≡ Found r
     → (p ≡ value r.destination r.end (drop r.end s)) × (r ≡ row r.destination at r.end)

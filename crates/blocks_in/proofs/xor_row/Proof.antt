@@ -12,9 +12,9 @@ returns c =
     let c1 = c2.before.before in
     let c0 = c1.before.before in
     let a = c0.before.before.before.args in (
-      three_words a.p.now (3 * a.y) c0.word_at.result c2.word-at3.result c.word-at5.result _ _ _
-          c0.word_at.ensures c2.word-at3.ensures c.word-at5.ensures,
-      two_words a.q.now (2 * a.y) c1.word-at2.result c3.word-at4.result _ _ c1.word-at2.ensures c3.word-at4.ensures,
+      three_words a.p.now (3 * a.y) c0.word_at.result c2.word_at-3.result c.word_at-5.result _ _ _
+          c0.word_at.ensures c2.word_at-3.ensures c.word_at-5.ensures,
+      two_words a.q.now (2 * a.y) c1.word_at-2.result c3.word_at-4.result _ _ c1.word_at-2.ensures c3.word_at-4.ensures,
     )
 
 pub xor_row_spec : {M : Type 1} → statement M

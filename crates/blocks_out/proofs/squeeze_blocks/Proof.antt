@@ -16,39 +16,39 @@ use Rattle.blocks_out.proofs.Blocks.{lanes_after, out_after, lanes_stay, out_sta
 use Rattle.blocks_out.proofs.squeeze_blocks.Statement.{statement}
 use Rattle.blocks_out.proofs.squeeze_blocks.Tie as tie
 
-abbrev invariant-loop : tie.invariant-loop
+abbrev invariant-loop : tie.invariant-loop-out
 invariant-loop lanes out₀ from k p₀ q₀ at₀ out p q at =
     (at ≤ length out₀) × (length out ≡ length out₀)
     × (at + whole_blocks out₀ at * rate ≡ from + whole_blocks out₀ from * rate)
     × (permuted (whole_blocks out₀ at) (state_of p q) ≡ permuted (whole_blocks out₀ from) lanes)
     × (sets out at (squeeze (whole_blocks out₀ at) (keccak_p (state_of p q))) ≡ sets out₀ from (squeeze (whole_blocks out₀ from) (keccak_p lanes)))
 
-abbrev decreases-loop : tie.decreases-loop
+abbrev decreases-loop : tie.decreases-loop-out
 decreases-loop lanes out₀ from k p₀ q₀ at₀ out p q at = length out₀ - at
 
-too_short : tie.Need-returns invariant-loop decreases-loop
+too_short : tie.Need-returns-then-out-lt-RATE invariant-loop decreases-loop
 too_short c =
     let a = c.before.before.args in
     no_block a.out.now a.from a.lanes.now (omega arith)
 
-too_late : tie.Need-returns-2 invariant-loop decreases-loop
+too_late : tie.Need-returns-then-out-from invariant-loop decreases-loop
 too_late c =
     let a = c.before.before.before.args in
     no_block a.out.now a.from a.lanes.now (omega arith)
 
-abbrev bound : tie.After-odds invariant-loop decreases-loop → tie.After-constants invariant-loop decreases-loop
+abbrev bound : tie.After-odds-q invariant-loop decreases-loop → tie.After-constants-k invariant-loop decreases-loop
 bound c = c.before.before.before.before.before.before
 
-abbrev start : tie.After-odds invariant-loop decreases-loop → tie.Start invariant-loop decreases-loop
+abbrev start : tie.After-odds-q invariant-loop decreases-loop → tie.Start invariant-loop decreases-loop
 start c = (bound c).before.before.before.before
 
-loop_holds : tie.Need-loop-init invariant-loop decreases-loop
+loop_holds : tie.Need-loop-out-init invariant-loop decreases-loop
 loop_holds c =
     let ce = c.before.before in
     let cl = ce.before.before in
     let a = (start c).args in
-    let e : state_of ce.evens.result c.odds.result ≡ a.lanes.now
-    = state_of-columns a.lanes.now ce.evens.result c.odds.result ce.evens.ensures c.odds.ensures cl.all_lanes.ensures in (
+    let e : state_of ce.evens-p.result c.odds-q.result ≡ a.lanes.now
+    = state_of-columns a.lanes.now ce.evens-p.result c.odds-q.result ce.evens-p.ensures c.odds-q.ensures cl.all_lanes.ensures in (
       omega arith,
       refl,
       refl,
@@ -56,43 +56,43 @@ loop_holds c =
       ap (λ (x : List ℕ). sets a.out.now a.from (squeeze (whole_blocks a.out.now a.from) (keccak_p x))) e,
     )
 
-loop_again : tie.Need-loop-preserved invariant-loop decreases-loop
+loop_again : tie.Need-loop-out-preserved invariant-loop decreases-loop
 loop_again c =
     let put = c.before.before in
     let block = put.before.before.before in
     let permuting = block.before in
     let turn = permuting.before.before.before.before.before in
-    let l = turn.loop in
-    let k = (bound turn.before).constants in
+    let l = turn.loop-out in
+    let k = (bound turn.before).constants-k in
     let s : List ℕ = (start turn.before).args.out.now in
-    let n : ℕ = put.put-out.result in
-    let b : List ℕ = state_of permuting.rounds.new.0 permuting.rounds.new.1.0 in
+    let n : ℕ = put.put_out-at.result in
+    let b : List ℕ = state_of permuting.rounds.new.p permuting.rounds.new.q in
     let h : l.at + rate ≤ length s = omega arith in
     let e : n ≡ rate = omega arith in (
       omega arith,
-      put.put-out.auto.0 ∙ l.invariant.1,
+      put.put_out-at.auto.out ∙ l.invariant.1,
       ap (λ (m : ℕ). l.at + m + whole_blocks s (l.at + m) * rate) e ∙ same_end s l.at h ∙ l.invariant.2,
       ap (λ (m : ℕ). permuted (whole_blocks s (l.at + m)) b) e
           ∙ lanes_after s l.at k.result (state_of l.p l.q) b k.ensures h permuting.rounds.ensures
           ∙ l.invariant.3,
       ap (λ (x : List ℕ). sets x (l.at + n) (squeeze (whole_blocks s (l.at + n)) (keccak_p b)))
-          (put.put-out.ensures.1 ∙ ap (λ (x : List ℕ). sets l.out l.at (bytes_at x 0 n)) block.joined.ensures)
+          (put.put_out-at.ensures.1 ∙ ap (λ (x : List ℕ). sets l.out l.at (bytes_at x 0 n)) block.joined-block.ensures)
           ∙ ap (λ (m : ℕ). sets (sets l.out l.at (bytes_at b 0 m)) (l.at + m) (squeeze (whole_blocks s (l.at + m)) (keccak_p b))) e
           ∙ out_after s l.at k.result (state_of l.p l.q) b k.ensures h permuting.rounds.ensures l.out
           ∙ l.invariant.4,
     )
 
-same_length : tie.Need-same-length invariant-loop decreases-loop
-same_length c = c.before.before.loop.invariant.1
+same_length : tie.Need-shape_of-out invariant-loop decreases-loop
+same_length c = c.before.before.loop-out.invariant.1
 
-returns : tie.Need-returns-3 invariant-loop decreases-loop
+returns : tie.Need-returns invariant-loop decreases-loop
 returns c =
     let turn = c.before.before in
-    let l = turn.loop in
+    let l = turn.loop-out in
     let s : List ℕ = (start turn.before).args.out.now in
     let h : length s < l.at + rate = omega arith in (
       omega arith,
-      c.joined2.ensures ∙ sym (lanes_stay s l.at (state_of l.p l.q) h) ∙ l.invariant.3,
+      c.joined.ensures ∙ sym (lanes_stay s l.at (state_of l.p l.q) h) ∙ l.invariant.3,
       sym (out_stays s l.at l.out (keccak_p (state_of l.p l.q)) h) ∙ l.invariant.4,
     )
 

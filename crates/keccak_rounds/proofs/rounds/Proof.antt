@@ -9,34 +9,34 @@ use Rattle.in_place.specs.Laws.Turns.{Reached, two_rounds}
 use Rattle.keccak_rounds.proofs.rounds.Statement.{statement}
 use Rattle.keccak_rounds.proofs.rounds.Tie as tie
 
-abbrev invariant-loop : tie.invariant-loop
+abbrev invariant-loop : tie.invariant-loop-i
 invariant-loop p₀ q₀ k t₀ i₀ p q t i = (i ≤ 12) × Reached k (state_of p₀ q₀) (2 * i) (standing p q) t
 
-abbrev decreases-loop : tie.decreases-loop
+abbrev decreases-loop : tie.decreases-loop-i
 decreases-loop p₀ q₀ k t₀ i₀ p q t i = 12 - i
 
-loop_holds : tie.Need-loop-init invariant-loop decreases-loop
+loop_holds : tie.Need-loop-i-init invariant-loop decreases-loop
 unfolding first_row lanes rounds_with
 loop_holds c = (omega arith, record { row = refl; state = refl })
 
-loop_again : tie.Need-loop-preserved invariant-loop decreases-loop
+loop_again : tie.Need-loop-i-preserved invariant-loop decreases-loop
 loop_again c =
     let known_odd = c.before.before.before in
     let even = known_odd.before.before.before in
     let known_even = even.before.before.before in
     let turn = known_even.before.before.before.before in
     let a = turn.before.before.before.before.before.before.args in
-    let ends = c.odd.ensures in (
+    let ends = c.odd-v.ensures in (
       omega arith,
-      two_rounds a.k.now (state_of a.p.now a.q.now) turn.loop.i (omega arith) _ _ _ _ _ _
-          known_even.known.ensures known_odd.known2.ensures turn.loop.invariant.1
-          even.even.ensures.0 even.even.ensures.1 ends.0 ends.1,
+      two_rounds a.k.now (state_of a.p.now a.q.now) turn.loop-i.i (omega arith) _ _ _ _ _ _
+          known_even.known.ensures known_odd.known-in-loop-i.ensures turn.loop-i.invariant.1
+          even.even-u.ensures.0 even.even-u.ensures.1 ends.0 ends.1,
     )
 
 returns : tie.Need-returns invariant-loop decreases-loop
 returns c =
-    let e : 2 * c.before.loop.i ≡ 24 = omega arith in
-    rw e at c.before.loop.invariant.1.state
+    let e : 2 * c.before.loop-i.i ≡ 24 = omega arith in
+    rw e at c.before.loop-i.invariant.1.state
 
 pub rounds_spec : {M : Type 1} → statement M
 rounds_spec =

@@ -11,20 +11,20 @@ use Rattle.sponge.proofs.Absorbing.{absorb_byte-in, absorb_byte-last}
 use Rattle.sponge.proofs.absorb_byte.Statement.{statement}
 use Rattle.sponge.proofs.absorb_byte.Tie as tie
 
-returns : tie.Need-returns
+returns : tie.Need-returns-then-p-lt-RATE
 returns c =
     let put = c.before in
     let a = put.before.before.args in
     let p : ℕ = a.position % rate in (
-      ap (λ (x : List ℕ). running x (p + 1)) put.xor-byte.ensures ∙ sym (absorb_byte-in a.lanes.now p a.b (omega arith)),
+      ap (λ (x : List ℕ). running x (p + 1)) put.xor_byte.ensures ∙ sym (absorb_byte-in a.lanes.now p a.b (omega arith)),
       omega arith,
     )
 
-returns_2 : tie.Need-returns-2
+returns_2 : tie.Need-returns
 returns_2 c =
     let put = c.before.before.before in
     let a = put.before.before.args in (
-      ap (λ (x : List ℕ). running x 0) (c.permute.ensures ∙ ap keccak_p put.xor-byte.ensures)
+      ap (λ (x : List ℕ). running x 0) (c.permute.ensures ∙ ap keccak_p put.xor_byte.ensures)
           ∙ sym (absorb_byte-last a.lanes.now (a.position % rate) a.b (omega arith)),
       omega arith,
     )

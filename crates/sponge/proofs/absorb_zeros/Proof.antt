@@ -8,14 +8,14 @@ use Rattle.sponge.proofs.Whole.{absorbed_zeros}
 use Rattle.sponge.proofs.absorb_zeros.Statement.{statement}
 use Rattle.sponge.proofs.absorb_zeros.Tie as tie
 
-returns : tie.Need-returns
+returns : tie.Need-returns-then-position-eq0
 unfolding absorbed
-returns c = rw c.if1.true
+returns c = rw c.if-position-eq0.true
 
 permute_requires : tie.Need-permute-requires
 permute_requires c κs = search rules
 
-returns_2 : tie.Need-returns-2
+returns_2 : tie.Need-returns
 returns_2 c =
     let a = c.before.before.before.args in
     rw (absorbed_zeros a.lanes.now (a.position % rate) (omega arith) (omega arith), c.permute.ensures)

@@ -20,7 +20,7 @@ returns : tie.Need-returns
 returns c =
     let second = c.before.before in
     let first = second.before.before in
-    in_order _ _ _ _ _ _ first.xor-byte.ensures second.xor-byte2.ensures c.permute.ensures
+    in_order _ _ _ _ _ _ first.xor_byte.ensures second.xor_byte-2.ensures c.permute.ensures
 
 pub finish_spec : {M : Type 1} → statement M
 finish_spec = tie.close (tie.spec (λ c κs. tt) (λ c. omega arith) (λ c κs. tt) (λ c κs. tt) returns)

@@ -17,7 +17,7 @@ returns : tie.Need-returns
 unfolding code_of
 returns c =
     let head = c.before.before.before in
-    let code = head.before.before.before.left-code in
+    let code = head.before.before.before.left_code-code in
     let a = head.before.before.before.before.before.args in
     let s = a.s.now in
     let word : code.result.word ≡ number_of 256 (left_encode (8 * length s)) = ap (λ (u : Code). u.word) code.ensures.0 in
@@ -25,9 +25,9 @@ returns c =
       omega (arith, len, length_encode_string s, length_left_encode (8 * length s)),
       omega (arith, code.ensures.2),
       rw rate_encoded
-          (headed_absorbed a.lanes.now head.xor-word.new.0 c.absorb.new.0 encoded_rate s 0 (0x8801 + code.result.word * 0x1_0000)
+          (headed_absorbed a.lanes.now head.xor_word.new.lanes c.absorb.new.lanes encoded_rate s 0 (0x8801 + code.result.word * 0x1_0000)
           (2 + code.result.len) c.absorb.result (search rules) (omega arith) (omega (arith, len, code.ensures.2)) (omega arith)
-          (omega (arith, word)) (omega (arith, len)) head.xor-word.ensures c.absorb.ensures.0),
+          (omega (arith, word)) (omega (arith, len)) head.xor_word.ensures c.absorb.ensures.0),
     )
 
 pub absorb_first_spec : {M : Type 1} → statement M

@@ -8,16 +8,16 @@ use Rattle.start.proofs.prefix.absorb_key.Tie as tie
 
 returns : tie.Need-returns
 returns c =
-    let string = c.before.before.absorb-first in
+    let string = c.before.before.absorb_first-total in
     let a = c.before.before.before.before.before.args in
     let x = encode_string a.key.now in
     record {
       lanes =
-          padded_lanes a.lanes.now string.new.0 c.absorb-zeros.new.0 x string.result string.ensures.0 string.ensures.2
-          c.absorb-zeros.ensures;
+          padded_lanes a.lanes.now string.new.lanes c.absorb_zeros.new.lanes x string.result string.ensures.0 string.ensures.2
+          c.absorb_zeros.ensures;
       blocks =
-          padded_blocks a.lanes.now string.new.0 c.absorb-zeros.new.0 x string.result string.ensures.0 string.ensures.2
-          c.absorb-zeros.ensures;
+          padded_blocks a.lanes.now string.new.lanes c.absorb_zeros.new.lanes x string.result string.ensures.0 string.ensures.2
+          c.absorb_zeros.ensures;
       bounded = omega (arith, string.ensures.1);
     }
 

@@ -25,9 +25,9 @@ returns c =
     let a = begun.before.before.before.args in
     let lanes = a.lanes.now in
     let s = a.customisation.now in
-    let code = coded.left-code in
-    let name = begun.xor-word in
-    let length_put = head.xor-word2 in
+    let code = coded.left_code-code in
+    let name = begun.xor_word in
+    let length_put = head.xor_word-2 in
     let put = string.absorb in
     let word : code.result.word ≡ number_of 256 (left_encode (8 * length s)) = ap (λ (u : Code). u.word) code.ensures.0 in
     let len : code.result.len ≡ length (left_encode (8 * length s)) = ap (λ (u : Code). u.len) code.ensures.0 in
@@ -37,14 +37,14 @@ returns c =
     let counted : total ≡ 2 + length x
     = omega (arith, len, length-append (encode_string KMAC) (encode_string s), length_encode_string s, length_left_encode (8 * length s), kmac_length) in
     let customised =
-    headed_absorbed name.new.0 length_put.new.0 put.new.0 [] s 1 code.result.word n put.result (search rules) (omega arith)
+    headed_absorbed name.new.lanes length_put.new.lanes put.new.lanes [] s 1 code.result.word n put.result (search rules) (omega arith)
     (omega (arith, len, code.ensures.2)) (omega arith) word (omega (arith, len)) length_put.ensures put.ensures.0 in
     let all =
-    joined_strings lanes name.new.0 put.new.0 (encode_string KMAC) (encode_string s) 8 (total % rate)
-    (kmac_absorbed lanes name.new.0 name.ensures) customised in
+    joined_strings lanes name.new.lanes put.new.lanes (encode_string KMAC) (encode_string s) 8 (total % rate)
+    (kmac_absorbed lanes name.new.lanes name.ensures) customised in
     record {
-      lanes = padded_lanes lanes put.new.0 c.absorb-zeros.new.0 x total counted all c.absorb-zeros.ensures;
-      blocks = padded_blocks lanes put.new.0 c.absorb-zeros.new.0 x total counted all c.absorb-zeros.ensures;
+      lanes = padded_lanes lanes put.new.lanes c.absorb_zeros.new.lanes x total counted all c.absorb_zeros.ensures;
+      blocks = padded_blocks lanes put.new.lanes c.absorb_zeros.new.lanes x total counted all c.absorb_zeros.ensures;
       bounded = omega (arith, code.ensures.2);
     }
 

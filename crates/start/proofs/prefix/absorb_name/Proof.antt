@@ -14,17 +14,17 @@ use Rattle.start.proofs.prefix.absorb_name.Tie as tie
 returns : tie.Need-returns
 returns c =
     let customised = c.before.before in
-    let name = customised.before.before.absorb-first in
+    let name = customised.before.before.absorb_first-named in
     let a = c.before.before.before.before.before.before.before.before.args in
-    let both = customised.absorb-string in
+    let both = customised.absorb_string-total in
     let lanes = a.lanes.now in
     let N = encode_string a.name.now in
     let S = encode_string a.customisation.now in
     let n : both.result ≡ 2 + length (N ++ S) = omega (arith, length-append N S, both.ensures.0, name.ensures.0) in
-    let joined = joined_strings lanes name.new.0 both.new.0 N S (name.result % rate) (both.result % rate) name.ensures.2 both.ensures.2 in
+    let joined = joined_strings lanes name.new.lanes both.new.lanes N S (name.result % rate) (both.result % rate) name.ensures.2 both.ensures.2 in
     record {
-      lanes = padded_lanes lanes both.new.0 c.absorb-zeros.new.0 (N ++ S) both.result n joined c.absorb-zeros.ensures;
-      blocks = padded_blocks lanes both.new.0 c.absorb-zeros.new.0 (N ++ S) both.result n joined c.absorb-zeros.ensures;
+      lanes = padded_lanes lanes both.new.lanes c.absorb_zeros.new.lanes (N ++ S) both.result n joined c.absorb_zeros.ensures;
+      blocks = padded_blocks lanes both.new.lanes c.absorb_zeros.new.lanes (N ++ S) both.result n joined c.absorb_zeros.ensures;
       bounded = omega (arith, both.ensures.1, name.ensures.1);
     }
 

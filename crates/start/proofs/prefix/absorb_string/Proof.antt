@@ -12,34 +12,34 @@ use Rattle.start.proofs.prefix.absorb_string.Statement.{statement}
 use Rattle.start.proofs.prefix.absorb_string.Tie as tie
 
 -- the part of the nine bytes is as long as its end says
-slice_aggregate_absorb : tie.Need-slice-aggregate-absorb
+slice_aggregate_absorb : tie.Need-slice_bounds-absorb-end
 slice_aggregate_absorb c =
-    let e = c.before.before.before.left-encode.ensures in
+    let e = c.before.before.before.left_encode-code.ensures in
     answers_length e ∙ sym (ap length (answers_code e))
 
 returns : tie.Need-returns
 returns c =
     let coded = c.before.before.before.before.before.before in
     let a = coded.before.before.args in
-    let code = coded.left-encode in
+    let code = coded.left_encode-code in
     let first = c.before.before.absorb in
     let n : code.result.len ≡ length (left_encode (8 * length a.s.now)) = answers_length code.ensures in (
       omega (arith, length_encode_string a.s.now, length_left_encode (8 * length a.s.now)),
       omega (arith, code.ensures.fits),
       string_absorbed
           a.lanes.now
-          first.new.0
-          c.absorb2.new.0
+          first.new.lanes
+          c.absorb-2.new.lanes
           (take code.result.len code.result.bytes)
           a.s.now
           a.total
           code.result.len
           first.result
-          c.absorb2.result
+          c.absorb-2.result
           (answers_code code.ensures)
           (n ∙ sym (ap length (answers_code code.ensures)))
           first.ensures.0
-          c.absorb2.ensures.0,
+          c.absorb-2.ensures.0,
     )
 
 pub absorb_string_spec : {M : Type 1} → statement M
