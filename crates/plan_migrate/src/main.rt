@@ -32,7 +32,8 @@ fn migrate(plan: &[u8], out: &mut [u8]) -> usize
         return 0; // the buffer is shorter than the plan, since no plan becomes longer
     }
     let written = plan_migration::migrate(plan, &mut out[..length]);
-    if written.number != answers::DONE {
+    let refused = written.number != answers::DONE;
+    if refused {
         return 0;
     }
     length

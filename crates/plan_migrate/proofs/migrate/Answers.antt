@@ -6,15 +6,14 @@ use Rattle.plan_migrate.proofs.Output.{no_room, nothing, whole}
 use Rattle.plan_migrate.proofs.migrate.Goals as goal
 
 pub returns-then-out-length : goal.returns-then-out-length
-returns-then-out-length c =
-    no_room _ _ (omega (arith, c.if-out-length.true, ap (λ (q : PlanLength). q.length) c.migrated_length-needed.ensures))
+returns-then-out-length c = no_room _ _ (omega (arith, c.if-out-length.true, ap (λ (q : PlanLength). q.length) c.migrated_length-needed.ensures))
 
-pub returns-then-written-ne-DONE : goal.returns-then-written-ne-DONE
-returns-then-written-ne-DONE c =
-    nothing _ _ _ _ c.migrate-written.result c.if-out-length.false (ap (λ (q : PlanLength). q.length) c.migrated_length-needed.ensures)
-    c.migrate-written.ensures c.if-written-ne-DONE.true
+pub returns-then-refused : goal.returns-then-refused
+returns-then-refused c =
+    nothing _ _ _ _ c.migrate-written.result (omega arith) (ap (λ (q : PlanLength). q.length) c.migrated_length-needed.ensures) c.migrate-written.ensures
+    c.if-refused.true
 
 pub returns : goal.returns
 returns c =
-    whole _ _ _ _ c.migrate-written.result c.if-out-length.false (ap (λ (q : PlanLength). q.length) c.migrated_length-needed.ensures)
-    c.migrate-written.ensures c.if-written-ne-DONE.false
+    whole _ _ _ _ c.migrate-written.result (omega arith) (ap (λ (q : PlanLength). q.length) c.migrated_length-needed.ensures) c.migrate-written.ensures
+    c.if-refused.false
