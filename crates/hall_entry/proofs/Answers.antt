@@ -15,7 +15,7 @@ use Rattle.hall_entry.specs.Bytes.{valued, judged, byte_head}
 use Rattle.hall_entry.specs.Laws.Heads.{kind_place}
 use Rattle.hall_entry.specs.Answers.{head_answer, entry_values, head_values, ReadsEntry}
 use Rattle.hall_entry.specs.declared.EntryRead.{EntryRead}
-use Rattle.hall_entry.specs.declared.EntryRead.TheVariants.{Found, NotEntry}
+use Rattle.hall_entry.specs.declared.EntryRead.TheVariants.{NotEntry}
 
 -- the values follow from the answer
 values_of : {A : Type 0} (h : Head A) → entry_values (head_answer h) ≡ head_values h
@@ -24,15 +24,6 @@ values_of (wrong place) = refl
 
 pub answers_as : {A : Type 0} (h : Head A) (r : EntryRead) → r ≡ head_answer h → ReadsEntry h r
 answers_as h r e = record { answer = e; values = ap entry_values e ∙ values_of h }
-
--- an entry of the kind k, from the number of its value
-abbrev pub value_answer : ℕ → Number → EntryRead
-value_answer k (Value v next) = Found k v next
-value_answer k (Bad place) = NotEntry place
-
-pub value_answer_lem : (k : ℕ) (p : Parsed) → value_answer k (number_answer p) ≡ head_answer (valued k p)
-value_answer_lem k (value v next rest) = refl
-value_answer_lem k (bad place) = refl
 
 module _ (s : List ℕ) (levels chutes at : ℕ) where
   -- an entry, from the number of its kind

@@ -1,6 +1,6 @@
 -- Halls and entries (docs/RULES.md, 'Hall plan'): a hall holds entries, and an entry is a chute or holds a hall. What is said here holds of entries read from
 -- any list, be it the bytes of a hall plan or the entries that stand outside its bytes: `head` reads the entry that stands first.
-use Rattle.std.specs.Prelude.{ℕ, zero, suc, ◌+◌, List, [], ◌∷◌, ◌++◌, map, Bool, true, false, cond, ltb, eqb, length}
+use Rattle.std.specs.Prelude.{ℕ, zero, suc, ◌+◌, List, [], ◌∷◌, ◌++◌, map, Bool, false, cond, ltb, eqb, length}
 use Rattle.hall_entry.specs.Limits.{max_chutes}
 
 -- the kinds of entries

@@ -5,9 +5,9 @@ use Rattle.answers.specs.Breaches.{place_of}
 use Rattle.leb128.specs.Number.{Parsed, value, bad, max_number}
 use Rattle.leb128.specs.Laws.Reading.{Used, groups_used, Rest, groups_rest, limit_three}
 use Rattle.plan_read.specs.Plan.{plan_number}
-use Rattle.hall_entry.specs.Entries.{kind_allowed, Head, first, wrong}
+use Rattle.hall_entry.specs.Entries.{kind_allowed, wrong}
 use Rattle.hall_entry.specs.Bytes.{valued, kind_breach, judged, byte_head}
-use Rattle.hall_entry.specs.Laws.Heads.{Kind, kind_known, HeadIn, HeadAfter}
+use Rattle.hall_entry.specs.Laws.Heads.{Kind, kind_known, HeadAfter}
 
 module _ (s : List ℕ) where
   -- a number that is read at a place inside s ends inside s

@@ -6,7 +6,7 @@ use native.Mathlib.Omega.{arith}
 use lib.ListN.{length}
 use Rattle.leb128.specs.Number.{max_number}
 use Rattle.leb128_write.specs.Written.{written_number}
-use Rattle.leb128_write.specs.Laws.{groups_count, length_is_lem}
+use Rattle.leb128_write.proofs.Laws.{groups_count, length_is_lem}
 use Rattle.hall_check.specs.Lists.{pairs, lists_allowed}
 use Rattle.hall_check.specs.Laws.Taken.{lists_known}
 use Rattle.hall_length.specs.Written.{written_entries}

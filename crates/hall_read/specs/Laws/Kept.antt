@@ -1,10 +1,10 @@
 -- Laws of what a lookup keeps while entries are passed over, and of passes moved past entries.
-use Rattle.std.specs.Prelude.{◌≡◌, refl, List, [], ◌∷◌, ◌++◌, Bool, true, false, cond, ℕ, zero, suc, ◌+◌, ◌-◌, ◌≤◌, ◌<◌, length, get_or, eqb}
-use Rattle.std.proofs.Common.{sym, ap, ◌∙◌, arith, length-append, eq-eqb, ne_eqb}
+use Rattle.std.specs.Prelude.{◌≡◌, refl, List, [], ◌∷◌, ◌++◌, Bool, true, false, cond, ℕ, zero, suc, ◌+◌, ◌≤◌, length, get_or, eqb}
+use Rattle.std.proofs.Common.{ap, arith, length-append, eq-eqb, ne_eqb}
 use Rattle.hall_entry.specs.Entries.{Entry, entry, chute_kind, destinations, Read, reached, breach, prepend}
 use Rattle.hall_read.specs.Passing.{chute_at, kept, moved_past, passed_over, inside_hall}
 use Rattle.hall_read.specs.declared.Progress.{Progress}
-use Rattle.hall_read.specs.declared.Pass.TheVariants.{Reached, Breach}
+use Rattle.hall_read.specs.declared.Pass.TheVariants.{Reached}
 
 kept_past : (c i d : ℕ) (l : List ℕ) → c ≤ i → kept c i d l ≡ d
 unfolding kept

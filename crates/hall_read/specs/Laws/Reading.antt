@@ -1,5 +1,5 @@
 -- Laws of entries read one after another from any list: where reading ends, what a turn of the hall reader does, and what an entry holds.
-use Rattle.std.specs.Prelude.{◌≡◌, refl, List, [], ◌∷◌, ◌++◌, drop}
+use Rattle.std.specs.Prelude.{◌≡◌, refl, List, [], ◌∷◌, drop}
 use Rattle.std.proofs.Common.{sym, ◌∙◌, length-append, ne_eqb}
 use Rattle.std.proofs.Math.Path.{ap}
 use Prim.Native.Nat.{ℕ, zero, suc, ◌+◌, ◌-◌, ◌≤◌, ◌<◌}

@@ -8,7 +8,7 @@ use borrow.Author.Tests.{le-ltb}
 use mathlib.Core.List.{List}
 use lib.ListN.{length, take}
 use Rattle.encode.specs.Encode.{right_encode}
-use Rattle.encode.specs.Laws.Answer.{answers_code, answers_take}
+use Rattle.encode.proofs.Laws.Answer.{answers_code, answers_take}
 use Rattle.calls.specs.Limits.{max_output}
 use Rattle.calls.specs.Call.{Call, KMAC256, kmac256, refusal}
 use Rattle.calls.specs.Laws.Refusal.{output_accepted}
