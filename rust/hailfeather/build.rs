@@ -46,8 +46,12 @@ fn repository_archive(package: &Path) -> PathBuf {
             script.display()
         ));
     }
-    for source in ["build", "crates", "crates.txt"] {
-        println!("cargo::rerun-if-changed={}", repository.join(source).display());
+    // Of a crate what the archive is made of, and not out/, where each check writes.
+    let crates = fs::read_dir(repository.join("crates")).into_iter().flatten().flatten();
+    let parts = crates.flat_map(|one| ["src", "specs", "proofs"].map(|part| one.path().join(part)));
+    let files = ["build", "crates.txt"].map(|name| repository.join(name));
+    for source in parts.filter(|part| part.is_dir()).chain(files) {
+        println!("cargo::rerun-if-changed={}", source.display());
     }
     let run = Command::new("bash").arg(&script).stdin(Stdio::null()).stderr(Stdio::inherit()).output();
     let output = run.unwrap_or_else(|error| {
@@ -65,12 +69,12 @@ fn repository_archive(package: &Path) -> PathBuf {
     }
 }
 
-/// The words of the refusals are compiled in; in the repository the file is a link to include/refusals.txt.
+/// The words of the refusals are compiled in; in the repository the file is a copy of include/refusals.txt.
 fn require_refusals(package: &Path) {
     let words = package.join("refusals.txt");
     if !words.is_file() {
         fail(&format!(
-            "{} is not there; copy the package with cp -rL, or copy include/refusals.txt of the repository to it",
+            "{} is not there; copy the package's folder whole, or copy include/refusals.txt of the repository to it",
             words.display()
         ));
     }

@@ -7,7 +7,7 @@ use lib.ListN.{length, take, drop}
 use lib.Seq.{drop-drop}
 use Rattle.fips202.specs.Bytes.{xor_bytes}
 use Rattle.encode.specs.Padding.{rate, whole_blocks}
-use Rattle.encode.specs.Laws.Lengths.{one_block_fewer, no_whole_block}
+use Rattle.encode.proofs.Laws.Lengths.{one_block_fewer, no_whole_block}
 use Rattle.in_place.specs.Rounds.{rounds_with, RoundConstants}
 use Rattle.in_place.specs.Laws.Turns.{permutation}
 use Rattle.blocks_in.specs.Blocks.{absorb}

@@ -9,7 +9,7 @@ use Rattle.fips202.specs.Fips202.{keccak_p}
 use Rattle.fips202.specs.Bytes.{bytes_at}
 use Rattle.fips202.specs.Laws.Bytes.{length_bytes_at}
 use Rattle.encode.specs.Padding.{rate, whole_blocks}
-use Rattle.encode.specs.Laws.Lengths.{one_block_fewer, no_whole_block}
+use Rattle.encode.proofs.Laws.Lengths.{one_block_fewer, no_whole_block}
 use Rattle.stores.specs.Laws.{sets_append}
 use Rattle.in_place.specs.Rounds.{rounds_with, RoundConstants}
 use Rattle.in_place.specs.Laws.Turns.{permutation}
@@ -27,7 +27,8 @@ module _ (s : List ℕ) (at : ℕ) where
     lanes_after = ap (permuted (whole_blocks s (at + rate))) next ∙ ap (λ (k : ℕ). permuted k a) (sym (one_block_fewer s at h))
 
     pub out_after : (l : List ℕ)
-        → sets (sets l at (bytes_at b 0 rate)) (at + rate) (squeeze (whole_blocks s (at + rate)) (keccak_p b)) ≡ sets l at (squeeze (whole_blocks s at) (keccak_p a))
+        → sets (sets l at (bytes_at b 0 rate)) (at + rate) (squeeze (whole_blocks s (at + rate)) (keccak_p b))
+        ≡ sets l at (squeeze (whole_blocks s at) (keccak_p a))
     unfolding squeeze
     out_after l =
         let n : ℕ = whole_blocks s (at + rate) in

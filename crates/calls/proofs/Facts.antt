@@ -4,11 +4,11 @@ use mathlib.Core.List.{List}
 use Prim.Native.Nat.{ℕ, ◌+◌, ◌/◌}
 use Rattle.encode.specs.Digits.{width_in}
 use Rattle.encode.specs.Padding.{rate, blocks}
-use Rattle.encode.specs.Laws.Lengths.{string_length}
+use Rattle.encode.proofs.Laws.Lengths.{string_length}
 use Rattle.calls.specs.Start.{start_refusal}
 use Rattle.calls.specs.Call.{Function, cSHAKE256, KMAC256, KMACXOF256, kmacxof256, output_refusal, refusal}
 use Rattle.calls.specs.Count.{output_runs, reported_runs}
-use Rattle.calls.specs.Laws.Runs.{cshake_blocks, runs_by_lengths}
+use Rattle.calls.proofs.Laws.Runs.{cshake_blocks, runs_by_lengths}
 use Rattle.calls.specs.Facts.{StartRefusals, CallRefusals, Runs, Counts}
 
 pub start_refusals : StartRefusals

@@ -9,7 +9,7 @@ use borrow.Author.Tests.{ne_eqb, eqb-false}
 use lib.Dec.{ltb, eqb}
 use lib.ListN.{length}
 use Rattle.encode.specs.Encode.{KMAC}
-use Rattle.encode.specs.Laws.Encode.{last_encoded, last_encoded-of}
+use Rattle.encode.proofs.Laws.Encode.{last_encoded, last_encoded-of}
 use Rattle.calls.specs.Limits.{max_name, max_customisation, max_output}
 use Rattle.calls.specs.Input.{Input, fed_bytes}
 use Rattle.answers.specs.Done.{over}
@@ -20,7 +20,7 @@ use Rattle.calls.specs.Arguments.{Arguments, arguments}
 use Rattle.calls.specs.FedAlike.{FedAlikeExactly}
 use Rattle.calls.specs.Laws.Refusal.{start_accepted, output_accepted}
 use Rattle.calls.specs.Laws.Input.{fed_bytes-fixes}
-use Rattle.calls.specs.Laws.Fed.{kmac_message_fixes}
+use Rattle.calls.proofs.Laws.Fed.{kmac_message_fixes}
 
 -- the function whose accepted calls have this input: KMAC's own name is refused to cSHAKE256, and KMAC256 encodes no output length of 0
 unfoldable pub function_of : Input → Function

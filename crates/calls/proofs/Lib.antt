@@ -2,3 +2,4 @@
 pub mod FedAlike
 pub mod Facts
 pub mod Samples
+pub mod Laws

@@ -1,6 +1,3 @@
 -- Laws on the definitions, for the crates that build on them. None is needed to read a contract.
 pub mod Refusal
 pub mod Input
-pub mod Fed
-pub mod Runs
-pub mod Bytes

@@ -12,7 +12,7 @@ use Rattle.answers.specs.Breaches.{no_place, place_of}
 use Rattle.encode.specs.Laws.Bytes.{Bytes}
 use Rattle.leb128.specs.Number.{Parsed, value, bad}
 use Rattle.leb128_write.specs.Written.{written_number}
-use Rattle.leb128_write.specs.FormLaws.{Form, groups_form}
+use Rattle.leb128_write.proofs.FormLaws.{Form, groups_form}
 use Rattle.plan_read.specs.Limits.{max_plan}
 use Rattle.plan_read.specs.Plan.{plan_number}
 use Rattle.hall_entry.specs.Limits.{levels_below}

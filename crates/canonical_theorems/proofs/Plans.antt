@@ -14,7 +14,7 @@ use Rattle.encode.specs.Laws.Bytes.{Bytes}
 use Rattle.leb128.specs.Number.{Parsed, value, bad}
 use Rattle.leb128.specs.Laws.Reading.{Used, limit_three, groups_used}
 use Rattle.leb128_write.specs.Written.{written_number}
-use Rattle.leb128_write.specs.FormLaws.{Form, groups_form}
+use Rattle.leb128_write.proofs.FormLaws.{Form, groups_form}
 use Rattle.plan_read.specs.Limits.{max_plan, max_rows, max_destination}
 use Rattle.plan_read.specs.Plan.{
   Plan,

@@ -7,7 +7,7 @@ use Rattle.calls.specs.Call.{KMAC256, KMACXOF256, fed}
 use Rattle.calls.proofs.FedAlike.{function_of-xof, function_of-input, alike_function, fed_alike}
 use Rattle.seeding.specs.declared.Drng.TheVariants.{Cshake, Kmac}
 use Rattle.seeding.specs.Seeding.{key_bytes, kmac_seed_customisation, seed_message, seed_call}
-use Rattle.seeding.specs.Laws.{seeding_fixes, seed_call-accepted}
+use Rattle.seeding.proofs.Laws.{seeding_fixes, seed_call-accepted}
 use Rattle.demand3.specs.Demand3.{Demand3}
 
 generators_differ : Cshake ≡ Kmac → ⊥

@@ -11,14 +11,14 @@ use Rattle.encode.specs.Encode.{length_suffixed}
 use Rattle.calls.specs.Limits.{max_additional, max_output}
 use Rattle.calls.specs.Call.{fed}
 use Rattle.calls.specs.Count.{runs}
-use Rattle.calls.specs.Laws.Runs.{runs_by_lengths}
+use Rattle.calls.proofs.Laws.Runs.{runs_by_lengths}
 use Rattle.sponge.specs.Sponge.{sponge}
 use Rattle.sponge.proofs.Whole.{length_sponge}
 use Rattle.seeding.specs.declared.Drng.{Drng}
 use Rattle.seeding.specs.declared.Drng.TheVariants.{Cshake, Kmac}
 use Rattle.seeding.specs.Seeding.{key_bytes}
 use Rattle.pieces.specs.Pieces.{piece_bytes, piece_count}
-use Rattle.pieces.specs.Laws.{piece_count-fewer, total_runs-equal}
+use Rattle.pieces.proofs.Laws.{piece_count-fewer, total_runs-equal}
 use Rattle.drng.specs.Calls.{piece_call, generate}
 use Rattle.drng.specs.Drng.{draw_runs, draw_answer}
 use Rattle.drng.specs.Counts.{piece_runs, DrawCounts}
@@ -30,7 +30,8 @@ message_blocks additional e fits few =
     let x : length (length_suffixed additional) ≡ length additional + 1 = simp length-append in
     omega arith
 
-piece_runs_lem : (d : Drng) (additional key : List ℕ) → length additional ≤ max_additional → length key ≡ key_bytes → runs (piece_call d additional key) ≡ piece_runs d
+piece_runs_lem : (d : Drng) (additional key : List ℕ) → length additional ≤ max_additional → length key ≡ key_bytes
+    → runs (piece_call d additional key) ≡ piece_runs d
 unfolding width_in
 piece_runs_lem Cshake additional key fits size =
     runs_by_lengths (piece_call Cshake additional key) ∙ rw (size, message_blocks additional 0 fits (omega arith))

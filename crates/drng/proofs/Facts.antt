@@ -18,7 +18,8 @@ use Rattle.drng.specs.Facts.{GeneratorFacts}
 use Rattle.drng.proofs.Counts.{draw_runs_lem}
 
 pub generator_facts : GeneratorFacts
-unfolding generate draw_refusal piece_count seed_answer seed_lengths_refusal runs fed fed_bytes padded with_last_bit pad_to bytepad encode_string left_encode right_encode
+unfolding generate draw_refusal piece_count seed_answer seed_lengths_refusal runs fed fed_bytes padded with_last_bit pad_to bytepad encode_string
+    left_encode right_encode
     big_endian width_in
 generator_facts =
     record {

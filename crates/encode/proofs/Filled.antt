@@ -12,7 +12,7 @@ use Rattle.encode.specs.Encode.{big_endian, left_encode, right_encode}
 use Rattle.encode.specs.Answer.{encoded, Answers}
 use Rattle.encode.specs.Private.{big_endian_at}
 use Rattle.encode.specs.Laws.Digits.{length_digits}
-use Rattle.encode.specs.Laws.Lengths.{length_big_endian}
+use Rattle.encode.proofs.Laws.Lengths.{length_big_endian}
 
 drop_replicate : (k n a : ℕ) → drop k (replicate n a) ≡ replicate (n - k) a
 drop_replicate zero n a = rw sub-zero
@@ -46,7 +46,8 @@ module _ (n w : ℕ) (is : w ≡ width 256 n) (small : w ≤ 8) where
       answers (left_encode n) bytes (w + 1) (omega (arith, number_is)) (omega arith)
       (e ∙ (λ i. number_is i ∷ (digits_are i ++ rest i)))
 
-  pub right_answers : (bytes : List ℕ) → bytes ≡ set (big_endian_at (replicate 9 0) 0 w n) w w → Answers (right_encode n) (record { bytes = bytes; len = w + 1 })
+  pub right_answers : (bytes : List ℕ) → bytes ≡ set (big_endian_at (replicate 9 0) 0 w n) w w
+      → Answers (right_encode n) (record { bytes = bytes; len = w + 1 })
   unfolding big_endian_at right_encode
   right_answers bytes e =
       let k : 9 - w ≡ suc (9 - (w + 1)) = omega arith in

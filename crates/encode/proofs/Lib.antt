@@ -3,3 +3,4 @@ pub mod Facts
 mod Stored
 mod Filled
 mod Codes
+pub mod Laws

@@ -12,7 +12,8 @@ drop_set_at : (l : List ℕ) (k v : ℕ) → k < length l → drop k (set l k v)
 drop_set_at l k v h =
     drop-cons (set l k v) k 0 (lt-length-set l k v h) ∙ simp (get_or-set_same l k v 0 h, drop-set-lt (suc k) l k v (omega arith))
 
-pub store_one : (l : List ℕ) (at i n : ℕ) → 0 < i → at + i ≤ length l → big_endian_at (set l (at + (i - 1)) (n % 256)) at (i - 1) (n / 256) ≡ big_endian_at l at i n
+pub store_one : (l : List ℕ) (at i n : ℕ) → 0 < i → at + i ≤ length l
+    → big_endian_at (set l (at + (i - 1)) (n % 256)) at (i - 1) (n / 256) ≡ big_endian_at l at i n
 unfolding big_endian_at
 store_one l at zero n p h = absurd (omega arith)
 store_one l at (suc i) n p h =

@@ -10,7 +10,7 @@ use Rattle.encode.specs.Encode.{length_suffixed}
 use Rattle.calls.specs.Limits.{max_additional, max_personalisation}
 use Rattle.calls.specs.Call.{fed, extendable_call}
 use Rattle.calls.specs.Count.{runs}
-use Rattle.calls.specs.Laws.Fed.{extendable_parts}
+use Rattle.calls.proofs.Laws.Fed.{extendable_parts}
 use Rattle.sponge.specs.Sponge.{sponge}
 use Rattle.sponge.proofs.Whole.{length_sponge, sponge_prefix}
 use Rattle.seeding.specs.declared.Drng.{Drng}

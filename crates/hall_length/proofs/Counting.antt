@@ -8,7 +8,7 @@ use lib.ListN.{length, get_or, drop}
 use borrow.Author.Tests.{lt-ltb, le-ltb}
 use Rattle.leb128_write.specs.Written.{written_number}
 use Rattle.leb128_write.specs.Answers.{number_length}
-use Rattle.leb128_write.specs.Laws.{groups_count, length_is_lem}
+use Rattle.leb128_write.proofs.Laws.{groups_count, length_is_lem}
 use Rattle.plan_read.specs.Limits.{max_plan}
 use Rattle.plan_length.specs.Length.{length_is, no_length}
 use Rattle.hall_check.specs.Lists.{pairs, lists_allowed}

@@ -8,7 +8,7 @@ use lib.Seq.{sets, length-sets}
 use Rattle.stores.specs.Laws.{sets_append}
 use Rattle.leb128_write.specs.Written.{written_number}
 use Rattle.leb128_write.specs.Answers.{written_past, number_written}
-use Rattle.leb128_write.specs.Laws.{past_written, is_written}
+use Rattle.leb128_write.proofs.Laws.{past_written, is_written}
 use Rattle.hall_check.specs.Lists.{pairs}
 use Rattle.hall_check.specs.Laws.Pairs.{drop_pairs}
 use Rattle.hall_check.specs.Laws.Taken.{EntriesFit}

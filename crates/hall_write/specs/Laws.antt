@@ -4,7 +4,7 @@ use Rattle.std.proofs.Common.{arith, le-ltb, ne_eqb}
 use Rattle.std.proofs.Math.ListN.{length}
 use Rattle.leb128.specs.Number.{max_number}
 use Rattle.leb128_write.specs.Written.{written_number}
-use Rattle.leb128_write.specs.Laws.{number_read}
+use Rattle.leb128_write.proofs.Laws.{number_read}
 use Rattle.plan_read.specs.Limits.{max_plan}
 use Rattle.hall_entry.specs.Limits.{levels_below}
 use Rattle.hall_entry.specs.Entries.{Entry, chute_kind, destinations, first, reached, entries_with, inner_of, entries_of}

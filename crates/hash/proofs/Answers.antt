@@ -12,7 +12,7 @@ use Rattle.calls.specs.Limits.{max_message, max_output}
 use Rattle.calls.specs.Call.{Function, cSHAKE256, KMAC256, KMACXOF256, Call, start_of, message_of, output_bytes, output_refusal, call_refusal, refusal, fed, ending}
 use Rattle.calls.specs.Count.{output_runs, runs, reported_runs}
 use Rattle.calls.specs.Laws.Refusal.{start_accepted, message_accepted, output_accepted}
-use Rattle.calls.specs.Laws.Runs.{length_ending, runs_by_lengths}
+use Rattle.calls.proofs.Laws.Runs.{length_ending, runs_by_lengths}
 use Rattle.sponge.specs.Sponge.{sponge}
 use Rattle.start.specs.declared.Started.{Started}
 use Rattle.start.specs.Started.{Starts}

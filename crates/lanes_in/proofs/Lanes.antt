@@ -11,7 +11,7 @@ use lib.Seq.{length-take-le}
 use Rattle.fips202.specs.Bytes.{xor_bytes}
 use Rattle.encode.specs.Digits.{digits, number_of}
 use Rattle.encode.specs.Laws.Digits.{number_of-digits}
-use Rattle.encode.specs.Laws.Bytes.{get_d_bytes, digits_bytes}
+use Rattle.encode.proofs.Laws.Bytes.{get_d_bytes, digits_bytes}
 use Rattle.lanes_in.specs.Laws.Lanes.{EachByte, number_of-split, bytes_take, bytes_drop, xor_lane_from, xor_lane_lem, xor_lane_at, more_put}
 
 -- a number's own eight
@@ -71,7 +71,8 @@ module _ (s : List ℕ) (at m n : ℕ) (eight : m + n ≡ 8) (room : at + 8 ≤ 
 
 -- put in at byte p: as many as its lane has from there
 pub first_put : (s a : List ℕ) (p at : ℕ) → at + 8 ≤ length s → EachByte s
-    → set a (p / 8) (bit_xor (get_or a (p / 8) 0) (number_of 256 (take 8 (drop at s)) * 2 ^ (8 * (p % 8)) % 2 ^ 64)) ≡ xor_bytes a p (take (8 - p % 8) (drop at s))
+    → set a (p / 8) (bit_xor (get_or a (p / 8) 0) (number_of 256 (take 8 (drop at s)) * 2 ^ (8 * (p % 8)) % 2 ^ 64))
+    ≡ xor_bytes a p (take (8 - p % 8) (drop at s))
 first_put s a p at h hb =
     let bs : List ℕ = take (8 - p % 8) (drop at s) in
     let e : 8 * (p / 8) + p % 8 ≡ p = omega arith in

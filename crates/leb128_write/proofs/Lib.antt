@@ -1,2 +1,4 @@
 pub mod Theorems
 pub mod Writing
+pub mod Laws
+pub mod FormLaws

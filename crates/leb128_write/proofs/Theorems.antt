@@ -13,8 +13,8 @@ use borrow.Author.Tests.{lt-leb, leb-true, leb-false}
 use Rattle.leb128.specs.Number.{max_number}
 use Rattle.leb128_write.specs.Written.{written_number}
 use Rattle.leb128_write.specs.Answers.{number_length, number_fits, written_past, number_written}
-use Rattle.leb128_write.specs.Laws.{groups_count, number_read, past_written, is_written, length_is_lem}
-use Rattle.leb128_write.specs.FormLaws.{number_form}
+use Rattle.leb128_write.proofs.Laws.{groups_count, number_read, past_written, is_written, length_is_lem}
+use Rattle.leb128_write.proofs.FormLaws.{number_form}
 use Rattle.leb128_write.specs.Theorems.{NumberIn, Theorems}
 use Rattle.leb128_write.proofs.Writing.{length_large}
 

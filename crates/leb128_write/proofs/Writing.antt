@@ -13,7 +13,7 @@ use Rattle.leb128.specs.Number.{limit, max_number}
 use Rattle.leb128_write.specs.Written.{written_groups, written_number}
 use Rattle.leb128_write.specs.Answers.{number_length, number_fits, written_past, number_written}
 use Rattle.leb128.specs.Laws.Reading.{limit_three}
-use Rattle.leb128_write.specs.Laws.{groups_last, groups_count}
+use Rattle.leb128_write.proofs.Laws.{groups_last, groups_count}
 
 groups_more : (more v : ℕ) → 1 ≤ more → 128 ≤ v → written_groups more v ≡ (128 + v % 128) ∷ written_groups (more - 1) (v / 128)
 unfolding written_groups

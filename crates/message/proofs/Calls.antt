@@ -7,7 +7,7 @@ use lib.ListN.{length, length-append}
 use Rattle.calls.specs.Start.{Start, start_refusal}
 use Rattle.calls.specs.Call.{Function, Call, start_of, message_of, output_bytes, fed, ending}
 use Rattle.calls.specs.Count.{output_runs, runs}
-use Rattle.calls.specs.Laws.Runs.{runs_by_lengths, length_ending}
+use Rattle.calls.proofs.Laws.Runs.{runs_by_lengths, length_ending}
 use Rattle.sponge.specs.Sponge.{sponge}
 use Rattle.sponge.specs.Running.{running, squeezed}
 use Rattle.start.specs.declared.Started.{Started}
@@ -23,7 +23,8 @@ module _ {f : Function} (c : Call f) (s : Started) (h : Starts (start_of c) s) (
 
   pub message_runs : s.blocks + r + output_runs (output_bytes c) ≡ runs c
   message_runs =
-      let long : length m ≡ length (message_of c) + length (ending f (output_bytes c)) = ap length is ∙ length-append (message_of c) (ending f (output_bytes c)) in
+      let long : length m ≡ length (message_of c) + length (ending f (output_bytes c)) =
+      ap length is ∙ length-append (message_of c) (ending f (output_bytes c)) in
       omega (arith, e.blocks, runs_by_lengths c, start_blocks_lem (start_of c) s h ok, length_ending f (output_bytes c))
 
 -- a start's blocks are few enough to be added up

@@ -10,7 +10,7 @@ use lib.Dec.{ltb}
 use borrow.Author.Tests.{ltb-true}
 use Rattle.leb128.specs.Number.{Parsed, value, bad, next_group, number}
 use Rattle.leb128_write.specs.Written.{written_groups}
-use Rattle.leb128_write.specs.Laws.{groups_last, groups_count}
+use Rattle.leb128_write.proofs.Laws.{groups_last, groups_count}
 use Rattle.old_number.specs.OldNumber.{old_groups, old_number}
 use Rattle.old_number.specs.Laws.{as_old, as_old_lem}
 

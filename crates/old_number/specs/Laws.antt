@@ -56,7 +56,8 @@ fails_after false more at s place (inr (inr f)) = f.after
 
 module _ (at b : ℕ) (s : List ℕ) where
   -- a group, and those after it
-  next_old : (p : Parsed) → ((place : ℕ) → p ≡ bad place → at + 1 ≤ place) → as_old at (b ∷ s) (next_group (b % 128) p) ≡ next_group (b % 128) (as_old (at + 1) s p)
+  next_old : (p : Parsed) → ((place : ℕ) → p ≡ bad place → at + 1 ≤ place)
+      → as_old at (b ∷ s) (next_group (b % 128) p) ≡ next_group (b % 128) (as_old (at + 1) s p)
   unfolding low_groups zero_there
   next_old (value v next rest) h = refl
   next_old (bad place) h =

@@ -8,7 +8,7 @@ use native.Mathlib.Omega.{arith}
 use lib.ListN.{length, take}
 use Rattle.calls.specs.Start.{same_bytes}
 use Rattle.calls.specs.Count.{runs}
-use Rattle.calls.specs.Laws.Runs.{runs_by_lengths}
+use Rattle.calls.proofs.Laws.Runs.{runs_by_lengths}
 use Rattle.sponge.specs.Running.{running, squeezed}
 use Rattle.byte_strings.specs.Combined.{combined}
 use Rattle.aead.specs.Limits.{authentication_key_length, least_tag, longest_tag}

@@ -1,4 +1,3 @@
 -- The definitions; then facts, and the laws.
 pub mod Pieces
 pub mod Facts
-pub mod Laws

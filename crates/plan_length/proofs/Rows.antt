@@ -40,7 +40,8 @@ module _ (i : ℕ) (l : List ℕ) (h : i < length l) where
   unfolding rows_allowed
   rows_allowed_lem = rw (here i l h)
 
-  pub length_more : (n : ℕ) → get_or l i 0 ≤ max_destination → length_from n (drop i l) ≡ length_from (n + length (written_number (get_or l i 0))) (drop (i + 1) l)
+  pub length_more : (n : ℕ) → get_or l i 0 ≤ max_destination
+      → length_from n (drop i l) ≡ length_from (n + length (written_number (get_or l i 0))) (drop (i + 1) l)
   length_more n m =
       let e : n + length (written_rows (drop i l)) ≡ n + length (written_number (get_or l i 0)) + length (written_rows (drop (i + 1) l)) = omega
       (arith, rows_length) in

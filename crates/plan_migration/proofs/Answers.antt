@@ -24,9 +24,9 @@ pub record Migrated (p : Plan) (out after : List ℕ) (r : PlanWritten) : Type 0
 
 module _ (out : List ℕ) (a : PlanLength) where
   -- it has no length
-  pub no_length : (p : Plan) → a ≡ migrated_length p → (a.number ≡ done → ⊥) → Migrated p out out (record { number = a.number; place = a.place })
+  pub no_length_lem : (p : Plan) → a ≡ migrated_length p → (a.number ≡ done → ⊥) → Migrated p out out (record { number = a.number; place = a.place })
   unfolding length_of
-  no_length (rows l) e z =
+  no_length_lem (rows l) e z =
       let w = not_allowed (row_destinations l) out a e z in
       record { answer = ap refusal (go (allowed (row_destinations l)) e) ∙ w.answer; buffer = w.buffer }
     where
@@ -36,7 +36,7 @@ module _ (out : List ℕ) (a : PlanLength) where
       go : (t : Bool) → a ≡ cond t (length_is (length (written_plan (row_destinations l)))) no_length → a ≡ no_length
       go true q = absurd (z (ap (λ (k : PlanLength). k.number) q))
       go false q = q
-  no_length (refused n place) e z = record { answer = rw e; buffer = refl }
+  no_length_lem (refused n place) e z = record { answer = rw e; buffer = refl }
 
   -- it has another length than the buffer
   pub other_buffer : (p : Plan) → Numbered p → a ≡ migrated_length p → a.number ≡ done → (a.length ≡ length out → ⊥)

@@ -15,7 +15,7 @@ use Rattle.leb128.specs.declared.Number.{Number}
 use Rattle.leb128.specs.declared.Number.TheVariants.{Value}
 use Rattle.leb128_write.specs.Written.{written_number}
 use Rattle.leb128_write.specs.Answers.{number_length}
-use Rattle.leb128_write.specs.Laws.{groups_count, length_is_lem}
+use Rattle.leb128_write.proofs.Laws.{groups_count, length_is_lem}
 use Rattle.old_number.specs.OldNumber.{old_number}
 use Rattle.old_number.specs.Laws.{OldUsed, old_used}
 use Rattle.plan_read.specs.Limits.{max_rows}
@@ -71,7 +71,8 @@ with_row n r (refused k place) = refl
 
 -- a row more is counted
 pub with_more : (s : List ℕ) (i count at v next n : ℕ) → i < count → Found at s v next
-    → length_with n (rows_by old_number (count - i) at (drop at s)) ≡ length_with (n + number_length v) (rows_by old_number (count - (i + 1)) next (drop next s))
+    → length_with n (rows_by old_number (count - i) at (drop at s))
+    ≡ length_with (n + number_length v) (rows_by old_number (count - (i + 1)) next (drop next s))
 with_more s i count at v next n h f =
     rw (rows_more old_number s i count at v next h f.is, length_is_lem v f.small)
     (with_row n (row v at next) (rows_by old_number (count - (i + 1)) next (drop next s)))

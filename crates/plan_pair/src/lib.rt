@@ -9,7 +9,7 @@ use plan::ChuteRow;
 use plan_read::Row;
 
 // One of the two plans, or neither.
-#[derive(Drop)]
+#[derive(Clone, Copy)]
 pub enum Source {
     Neither,
     Site,

@@ -1,4 +1,4 @@
--- From the answers of the number reader, of reading the plan whole and of the row reader to a walk's start and to an ask's answer.
+-- From the answers of reading the plan whole and of the row reader to a walk's start and to an ask's answer.
 use mathlib.Core.Path.{◌≡◌, refl, sym, ap, ◌∙◌}
 use mathlib.Core.List.{List}
 use Prim.Native.Nat.{ℕ, zero, suc}
@@ -6,16 +6,12 @@ use native.Mathlib.Omega.{arith}
 use lib.ListN.{drop}
 use Rattle.answers.specs.Numbers.{done}
 use Rattle.answers.specs.Done.{if_done}
-use Rattle.leb128.specs.Number.{Parsed, value, bad}
-use Rattle.leb128.specs.Answers.{number_answer}
-use Rattle.leb128.specs.declared.Number.{Number}
-use Rattle.leb128.specs.declared.Number.TheVariants.{Value, Bad}
 use Rattle.plan_read.specs.Plan.{plan_number, row_answer}
 use Rattle.plan.specs.Answers.{summary_of}
 use Rattle.plan_read.specs.declared.RowRead.{RowRead}
 use Rattle.plan_read.specs.declared.RowRead.TheVariants.{Found, NotRow}
 use Rattle.plan.specs.declared.PlanSummary.{PlanSummary}
-use Rattle.plan_walk.specs.Walk.{past_number, first_row_at, walk_start, stay, asked, walk_step}
+use Rattle.plan_walk.specs.Walk.{first_row_at, walk_start, stay, asked, walk_step}
 use Rattle.plan_walk.specs.declared.Cursor.{Cursor}
 
 -- the new value where the number is 0, and else the old one
@@ -26,15 +22,6 @@ done_new (suc n) new old e = let z : ◌≡◌ {A = ℕ} 0 1 = cc in absurd (ome
 pub refused_old : {A : Type 0} (n : ℕ) (new old : A) → (n ≡ done → ⊥) → if_done n new old ≡ old
 refused_old zero new old h = absurd (h refl)
 refused_old (suc n) new old h = refl
-
--- the place after the number of rows, from the number reader's answer
-abbrev pub past_read : Number → ℕ
-past_read (Value v next) = next
-past_read (Bad place) = 0
-
-pub past_read_lem : (p : Parsed) → past_read (number_answer p) ≡ past_number p
-past_read_lem (value v next rest) = refl
-past_read_lem (bad place) = refl
 
 -- the start, by the summary of the plan
 abbrev start_for : List ℕ → PlanSummary → Cursor

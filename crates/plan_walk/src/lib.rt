@@ -9,7 +9,7 @@ use plan_read::RowRead;
 
 // Where a walk stands: at the next row of its plan; or at 0 with the plan's refusal and, with 9, the place at which the plan is malformed.
 #[repr(C)]
-#[derive(Drop)]
+#[derive(Clone, Copy)]
 pub struct Cursor {
     pub at: usize,
     pub place: usize,

@@ -20,7 +20,8 @@ use Rattle.plan_write.specs.Write.{fills, write_refusal, written_of, WritesPlan}
 
 module _ (i : ℕ) (l : List ℕ) (h : i < length l) where
   -- rows stored one after another
-  pub row_room : (at n : ℕ) → at + length (written_rows (drop i l)) ≤ n → at + length (written_number (get_or l i 0)) + length (written_rows (drop (i + 1) l)) ≤ n
+  pub row_room : (at n : ℕ) → at + length (written_rows (drop i l)) ≤ n
+      → at + length (written_number (get_or l i 0)) + length (written_rows (drop (i + 1) l)) ≤ n
   row_room at n r = omega (arith, rows_length i l h)
 
   pub rows_sets : (out : List ℕ) (at : ℕ)

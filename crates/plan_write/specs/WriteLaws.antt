@@ -2,7 +2,7 @@
 use Rattle.std.specs.Prelude.{◌≡◌, refl, List, [], ◌∷◌, ◌++◌, true, ℕ, ◌+◌, ◌*◌, ◌≤◌, length, leb}
 use Rattle.std.proofs.Common.{ap, arith, length-append, le-ltb, le-leb, leb-true}
 use Rattle.leb128_write.specs.Written.{written_number}
-use Rattle.leb128_write.specs.Laws.{groups_count, number_read}
+use Rattle.leb128_write.proofs.Laws.{groups_count, number_read}
 use Rattle.plan_read.specs.Limits.{max_plan, max_rows, max_destination}
 use Rattle.plan_read.specs.Plan.{rows, row, rows_by, rows_from, plan_by, plan_of, row_destinations}
 use Rattle.plan_read.specs.declared.Row.{Row}

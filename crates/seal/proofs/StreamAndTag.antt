@@ -13,7 +13,7 @@ use Rattle.calls.specs.Limits.{max_key, max_customisation, max_message}
 use Rattle.calls.specs.Start.{keyed, start_refusal}
 use Rattle.calls.specs.Call.{KMACXOF256, kmacxof256, fed, ending}
 use Rattle.calls.specs.Count.{runs}
-use Rattle.calls.specs.Laws.Runs.{runs_by_lengths}
+use Rattle.calls.proofs.Laws.Runs.{runs_by_lengths}
 use Rattle.sponge.specs.Sponge.{sponge}
 use Rattle.sponge.specs.Running.{Running, running, finished, squeezed, after}
 use Rattle.sponge.proofs.Squeezing.{after_in}
@@ -35,7 +35,8 @@ counts_fit r s hr hs = omega arith
 -- the key stream for a text of n bytes: its authentication key, and what the lanes give next
 pub record Streams (key iv : List ℕ) (n : ℕ) (r : Stream) : Type 0 where
   pub authentication : r.authentication ≡ take authentication_key_length (kmac_aead.key_stream key iv (authentication_key_length + n))
-  pub text : squeezed n (running r.lanes authentication_key_length) ≡ drop authentication_key_length (kmac_aead.key_stream key iv (authentication_key_length + n))
+  pub text : squeezed n (running r.lanes authentication_key_length)
+      ≡ drop authentication_key_length (kmac_aead.key_stream key iv (authentication_key_length + n))
   pub runs : r.runs ≡ kmac_aead.stream_runs key iv (authentication_key_length + n)
   pub bounded : r.runs ≤ runs_bound
 

@@ -10,7 +10,7 @@ use Rattle.encode.specs.Padding.{padded}
 use Rattle.calls.specs.Limits.{max_message, max_output}
 use Rattle.calls.specs.Start.{Start, named, keyed, start_refusal, start_prefix, start_suffix}
 use Rattle.calls.specs.Call.{refusal, Accepted, fed, ending, extendable, extendable_call}
-use Rattle.calls.specs.Laws.Fed.{extendable_parts, start_prefix-blocks}
+use Rattle.calls.proofs.Laws.Fed.{extendable_parts, start_prefix-blocks}
 use Rattle.sponge.specs.Sponge.{sponge}
 use Rattle.sponge.specs.Running.{Running, running, fresh, absorbed, finished, squeezed}
 use Rattle.sponge.proofs.Absorbing.{absorbed_append}

@@ -10,13 +10,13 @@ use calls::MAX_OUTPUT;
 use start::Started;
 
 // Taking the message, or giving output, with the position of the next byte in the block.
-#[derive(Drop)]
+#[derive(Clone, Copy)]
 pub enum Phase {
     Taking(usize),
     Giving(usize),
 }
 
-#[derive(Drop)]
+#[derive(Clone, Copy)]
 pub struct Session {
     pub lanes: [u64; 25],
     pub phase: Phase,

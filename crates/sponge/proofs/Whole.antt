@@ -9,8 +9,8 @@ use lib.ListN.{length, take, drop, replicate, length-replicate}
 use lib.Seq.{take-append-le, take-append-add, take-length, take_at, drop_at}
 use Rattle.fips202.specs.Fips202.{keccak_p}
 use Rattle.encode.specs.Padding.{rate, blocks, padding, padded}
-use Rattle.encode.specs.Laws.Padding.{padded_split, padding_set, length_padding}
-use Rattle.encode.specs.Laws.Lengths.{length_padded}
+use Rattle.encode.proofs.Laws.Padding.{padded_split, padding_set, length_padding}
+use Rattle.encode.proofs.Laws.Lengths.{length_padded}
 use Rattle.fips202.specs.Bytes.{xor_byte, xor_bytes, bytes_at}
 use Rattle.fips202.specs.Laws.Bytes.{xor_bytes-set, xor_bytes-zeros, bytes_at-append, length_bytes_at}
 use Rattle.blocks_in.specs.Blocks.{absorb}

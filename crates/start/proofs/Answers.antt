@@ -11,7 +11,7 @@ use Rattle.answers.specs.Laws.{first_number-passed, over_passed}
 use Rattle.calls.specs.Limits.{max_key, max_name, max_customisation}
 use Rattle.encode.specs.Padding.{rate}
 use Rattle.encode.specs.Encode.{encode_string, bytepad, KMAC}
-use Rattle.encode.specs.Laws.Lengths.{bytepad_blocks}
+use Rattle.encode.proofs.Laws.Lengths.{bytepad_blocks}
 use Rattle.calls.specs.Input.{is_shake, cshake_prefix, cshake_suffix}
 use Rattle.calls.specs.Start.{Start, named, keyed, start_refusal, start_prefix, start_suffix}
 use Rattle.calls.specs.Laws.Input.{is_shake-lengths}

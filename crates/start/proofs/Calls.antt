@@ -7,8 +7,8 @@ use lib.ListN.{length, replicate}
 use Rattle.encode.specs.Padding.{padded}
 use Rattle.calls.specs.Start.{Start, start_refusal, start_prefix, start_suffix}
 use Rattle.calls.specs.Call.{Function, Call, start_of, message_of, output_bytes, fed, ending}
-use Rattle.calls.specs.Laws.Fed.{fed_parts, start_prefix-blocks}
-use Rattle.calls.specs.Laws.Runs.{start_blocks, length_start_prefix}
+use Rattle.calls.proofs.Laws.Fed.{fed_parts, start_prefix-blocks}
+use Rattle.calls.proofs.Laws.Runs.{start_blocks, length_start_prefix}
 use Rattle.sponge.specs.Sponge.{sponge}
 use Rattle.sponge.specs.Running.{Running, running, fresh, absorbed, finished, squeezed}
 use Rattle.sponge.proofs.Absorbing.{absorbed_append}

@@ -10,8 +10,9 @@ use Rattle.fips202.specs.Laws.Bytes.{xor_bytes-append, xor_bytes-zeros}
 use Rattle.encode.specs.Digits.{digits, number_of, width_in}
 use Rattle.encode.specs.Padding.{rate, pad_to, shortfall}
 use Rattle.encode.specs.Encode.{big_endian, left_encode, encode_string, bytepad, KMAC}
-use Rattle.encode.specs.Laws.Bytes.{Bytes, append_bytes, left_encode-bytes, digits_number_of}
-use Rattle.encode.specs.Laws.Lengths.{length_bytepad}
+use Rattle.encode.specs.Laws.Bytes.{Bytes}
+use Rattle.encode.proofs.Laws.Bytes.{append_bytes, left_encode-bytes, digits_number_of}
+use Rattle.encode.proofs.Laws.Lengths.{length_bytepad}
 use Rattle.sponge.specs.Running.{Running, running, absorbed}
 use Rattle.sponge.proofs.Absorbing.{absorbed_append, absorbed_in}
 use Rattle.sponge.proofs.Chain.{start_absorb, then_absorb_counted, then_zeros}

@@ -31,21 +31,24 @@ returns_6 : tie.Need-returns-then-tag-least
 returns_6 c =
     let fifth = c.before in
     let second = fifth.before.before.before in
-    short_tag _ _ _ _ _ _ _ second.before.if-key-ne-SEALING_KEY_LENGTH.false second.if-iv-gt-MAX_CUSTOMISATION.false (omega arith) fifth.if-out-text.false c.if-tag-least.true
+    short_tag _ _ _ _ _ _ _ second.before.if-key-ne-SEALING_KEY_LENGTH.false second.if-iv-gt-MAX_CUSTOMISATION.false (omega arith)
+    fifth.if-out-text.false c.if-tag-least.true
 
 returns_7 : tie.Need-returns-then-tag-gt-LONGEST_TAG
 returns_7 c =
     let sixth = c.before in
     let fifth = sixth.before in
     let second = fifth.before.before.before in
-    long_tag_lem _ _ _ _ _ _ _ second.before.if-key-ne-SEALING_KEY_LENGTH.false second.if-iv-gt-MAX_CUSTOMISATION.false (omega arith) fifth.if-out-text.false sixth.if-tag-least.false c.if-tag-gt-LONGEST_TAG.true
+    long_tag_lem _ _ _ _ _ _ _ second.before.if-key-ne-SEALING_KEY_LENGTH.false second.if-iv-gt-MAX_CUSTOMISATION.false (omega arith)
+    fifth.if-out-text.false sixth.if-tag-least.false c.if-tag-gt-LONGEST_TAG.true
 
 returns_8 : tie.Need-returns
 returns_8 c =
     let sixth = c.before in
     let fifth = sixth.before in
     let second = fifth.before.before.before in
-    none_refused _ _ _ _ _ _ _ second.before.if-key-ne-SEALING_KEY_LENGTH.false second.if-iv-gt-MAX_CUSTOMISATION.false (omega arith) fifth.if-out-text.false sixth.if-tag-least.false c.if-tag-gt-LONGEST_TAG.false
+    none_refused _ _ _ _ _ _ _ second.before.if-key-ne-SEALING_KEY_LENGTH.false second.if-iv-gt-MAX_CUSTOMISATION.false (omega arith)
+    fifth.if-out-text.false sixth.if-tag-least.false c.if-tag-gt-LONGEST_TAG.false
 
 pub lengths_refusal_spec : {M : Type 1} → statement M
 lengths_refusal_spec = tie.close (tie.spec returns returns_2 returns_3 returns_4 returns_5 returns_6 returns_7 returns_8)

@@ -4,7 +4,7 @@ use Prim.Native.Nat.{◌+◌, ◌-◌, ◌*◌, ◌≤◌, ◌<◌}
 use native.Mathlib.Omega.{arith}
 use lib.ListN.{length, drop}
 use Rattle.encode.specs.Padding.{rate, whole_blocks}
-use Rattle.encode.specs.Laws.Lengths.{same_end}
+use Rattle.encode.proofs.Laws.Lengths.{same_end}
 use Rattle.in_place.specs.Rounds.{state_of}
 use Rattle.in_place.specs.Laws.Turns.{state_of-columns}
 use Rattle.blocks_in.specs.Blocks.{absorb}

@@ -8,7 +8,7 @@ use lib.Seq.{sets}
 use Rattle.fips202.specs.Fips202.{keccak_p}
 use Rattle.fips202.specs.Bytes.{bytes_at}
 use Rattle.encode.specs.Padding.{rate, whole_blocks}
-use Rattle.encode.specs.Laws.Lengths.{same_end}
+use Rattle.encode.proofs.Laws.Lengths.{same_end}
 use Rattle.in_place.specs.Rounds.{state_of}
 use Rattle.in_place.specs.Laws.Turns.{state_of-columns}
 use Rattle.blocks_out.specs.Blocks.{squeeze, permuted}

@@ -5,7 +5,7 @@ use Rattle.c_session_state.specs.Session.{c_session_answer}
 use Rattle.c_session_state.proofs.exported.Statement.{statement}
 use Rattle.c_session_state.proofs.exported.Tie as tie
 
-abbrev started : tie.After-phase-position → tie.Start
+abbrev started : tie.After-phase_position-position → tie.Start
 started c = c.before.before.before
 
 returns : tie.Need-returns
@@ -20,10 +20,10 @@ returns c =
       taken = s.taken;
       given = s.given;
       limit = s.limit;
-      position = placed.phase-position.ensures j;
-      phase = c.before.phase-number.ensures j;
+      position = placed.phase_position-position.ensures j;
+      phase = c.before.phase_number-number.ensures j;
       suffix = s.suffix;
-      kmac = c.number_of_lem.ensures j;
+      kmac = c.number_of-kmac.ensures j;
     }
 
 pub exported_spec : {M : Type 1} → statement M

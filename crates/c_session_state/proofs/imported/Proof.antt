@@ -10,12 +10,12 @@ returns c =
     λ j.
     record {
       lanes = s.lanes;
-      phase = c.before.imported-phase.ensures j;
+      phase = c.before.imported_phase-phase.ensures j;
       taken = s.taken;
       given = s.given;
       limit = s.limit;
       suffix = s.suffix;
-      kmac = c.is_set.ensures j;
+      kmac = c.is_set-kmac.ensures j;
     }
 
 pub imported_spec : {M : Type 1} → statement M

@@ -3,11 +3,11 @@ use borrow.Author.Rules.{rules}
 use Rattle.c_session_state.proofs.phase_number.Statement.{statement}
 use Rattle.c_session_state.proofs.phase_number.Tie as tie
 
-returns : tie.Need-returns
-returns c = rw c.enum_told.given.1
+returns : tie.Need-returns-in-Taking
+returns c = rw c.enum_told-1.given.1
 
-returns_2 : tie.Need-returns-2
-returns_2 c = rw c.enum-told2.given.1
+returns_2 : tie.Need-returns-in-Giving
+returns_2 c = rw c.enum_told-in-Giving-1.given.1
 
 pub phase_number_spec : {M : Type 1} → statement M
 phase_number_spec = tie.close (tie.spec (λ c. search rules) (λ c. search rules) returns returns_2)

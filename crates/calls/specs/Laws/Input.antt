@@ -4,9 +4,9 @@ use Rattle.std.proofs.Common.{◌∙◌, sym, arith, ne_eqb}
 use Rattle.encode.specs.Padding.{rate, padded}
 use Rattle.encode.specs.Encode.{encode_string, bytepad}
 use Rattle.encode.specs.Laws.Codes.{PrefixFree, then}
-use Rattle.encode.specs.Laws.Encode.{encode_string-free, bytepad_free}
-use Rattle.encode.specs.Laws.Padding.{padded_fixes}
-use Rattle.encode.specs.Laws.Lengths.{bytepad_blocks}
+use Rattle.encode.proofs.Laws.Encode.{encode_string-free, bytepad_free}
+use Rattle.encode.proofs.Laws.Padding.{padded_fixes}
+use Rattle.encode.proofs.Laws.Lengths.{bytepad_blocks}
 use Rattle.calls.specs.Input.{Input, is_shake, cshake_prefix, fed_bytes}
 
 is_shake-empty : (N S : List ℕ) → is_shake N S ≡ true → (N ≡ []) × (S ≡ [])

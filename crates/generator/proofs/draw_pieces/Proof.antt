@@ -8,7 +8,7 @@ use borrow.Rule.Slice.PartMut.{post_of, same_len_mid, mid_len}
 use lib.ListN.{length, take, drop}
 use lib.Seq.{length-take-le}
 use Rattle.pieces.specs.Pieces.{piece_bytes, drawn}
-use Rattle.pieces.specs.Laws.{before, cut_fits, cut_some, drawn_turn, drawn_end}
+use Rattle.pieces.proofs.Laws.{before, cut_fits, cut_some, drawn_turn, drawn_end}
 use Rattle.drng.specs.Calls.{generate}
 use Rattle.generator.proofs.Calls.{piece_key, piece_stream, piece_sized}
 use Rattle.generator.proofs.draw_pieces.Statement.{statement}

@@ -2,7 +2,7 @@
 use mathlib.Core.Path.{◌≡◌, sym, ◌∙◌}
 use lib.ListN.{length}
 use Rattle.seeding.specs.Seeding.{seed_lengths_refusal}
-use Rattle.seeding.specs.Laws.{seed_limits}
+use Rattle.seeding.proofs.Laws.{seed_limits}
 use Rattle.drng.proofs.Answers.{seed_refused, seed_accepted}
 use Rattle.generator.proofs.Calls.{key_made, key_runs}
 use Rattle.generator.proofs.seed.Statement.{statement}

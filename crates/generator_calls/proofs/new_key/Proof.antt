@@ -6,7 +6,7 @@ use native.Mathlib.Omega.{arith}
 use borrow.Author.Rules.{rules}
 use lib.ListN.{length}
 use Rattle.seeding.specs.Seeding.{key_bytes, cshake_seed_name, kmac_seed_customisation}
-use Rattle.seeding.specs.Laws.{call_start-accepted}
+use Rattle.seeding.proofs.Laws.{call_start-accepted}
 use Rattle.generator_input.specs.Input.{byte_suffixed}
 use Rattle.generator_calls.proofs.Inputs.{generator_output, generator_runs, runs_fit}
 use Rattle.generator_calls.proofs.new_key.Statement.{statement}

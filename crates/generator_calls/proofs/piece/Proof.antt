@@ -6,7 +6,7 @@ use borrow.Author.Rules.{rules}
 use lib.ListN.{length}
 use Rattle.sponge.specs.Running.{running, squeezed}
 use Rattle.seeding.specs.Seeding.{key_bytes}
-use Rattle.seeding.specs.Laws.{call_start-accepted}
+use Rattle.seeding.proofs.Laws.{call_start-accepted}
 use Rattle.drng.specs.Calls.{cshake_generate_name, kmac_generate_customisation}
 use Rattle.generator_input.specs.Input.{byte_suffixed}
 use Rattle.generator_calls.proofs.Inputs.{generator_output, key_part, stream_part}

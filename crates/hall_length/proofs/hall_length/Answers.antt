@@ -1,6 +1,6 @@
 -- Lists that break the rules have no length; else the outermost number, which fits, and the entries are counted.
 use Rattle.std.proofs.Common.{sym, ap, ◌∙◌, ℕ, ◌+◌, length, arith}
-use Rattle.leb128_write.specs.Laws.{groups_count, length_is_lem}
+use Rattle.leb128_write.proofs.Laws.{groups_count, length_is_lem}
 use Rattle.hall_check.specs.Lists.{pairs}
 use Rattle.hall_check.specs.Laws.Taken.{lists_known}
 use Rattle.hall_length.specs.Written.{written_entries}

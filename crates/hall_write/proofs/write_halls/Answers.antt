@@ -5,7 +5,7 @@ use Rattle.std.proofs.Math.Seq.{sets}
 use Rattle.leb128.specs.Number.{max_number}
 use Rattle.leb128_write.specs.Written.{written_number}
 use Rattle.leb128_write.specs.Answers.{written_past, number_written}
-use Rattle.leb128_write.specs.Laws.{past_written, is_written}
+use Rattle.leb128_write.proofs.Laws.{past_written, is_written}
 use Rattle.hall_check.specs.Lists.{pairs}
 use Rattle.hall_check.specs.Laws.Taken.{lists_known}
 use Rattle.hall_length.specs.Written.{written_entries}

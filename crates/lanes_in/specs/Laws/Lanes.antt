@@ -90,7 +90,8 @@ xor_lane_from (b ∷ bs) a i j h hb =
     ∙ upd_upd (λ x. bit_xor x (b * 2 ^ (8 * j))) (λ x. bit_xor x (number_of 256 bs * 2 ^ (8 * (j + 1)))) a i
     ∙ ap (set a i)
     (xor_assoc (get_or a i 0) (b * 2 ^ (8 * j)) (number_of 256 bs * 2 ^ (8 * (j + 1)))
-    ∙ ap (bit_xor (get_or a i 0)) (ap (λ (x : ℕ). bit_xor (b * 2 ^ (8 * j)) (number_of 256 bs * 2 ^ x)) w ∙ number_of-shift b (number_of 256 bs) (8 * j) (hb 0))))
+    ∙ ap (bit_xor (get_or a i 0)) (ap (λ (x : ℕ). bit_xor (b * 2 ^ (8 * j)) (number_of 256 bs * 2 ^ x)) w
+    ∙ number_of-shift b (number_of 256 bs) (8 * j) (hb 0))))
 
 pub xor_lane_lem : (bs a : List ℕ) (i : ℕ) → length bs ≤ 8 → EachByte bs → xor_bytes a (8 * i) bs ≡ set a i (bit_xor (get_or a i 0) (number_of 256 bs))
 xor_lane_lem bs a i h hb =

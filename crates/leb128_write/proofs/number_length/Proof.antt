@@ -5,7 +5,7 @@ use mathlib.Core.Path.{◌≡◌, sym, ◌∙◌}
 use native.Mathlib.Omega.{arith}
 use lib.ListN.{length}
 use Rattle.leb128_write.specs.Written.{written_number}
-use Rattle.leb128_write.specs.Laws.{length_is_lem}
+use Rattle.leb128_write.proofs.Laws.{length_is_lem}
 use Rattle.leb128_write.proofs.Writing.{GroupsLeft, left_start, left_more, left_last, length_large}
 use Rattle.leb128_write.proofs.number_length.Statement.{statement}
 use Rattle.leb128_write.proofs.number_length.Tie as tie

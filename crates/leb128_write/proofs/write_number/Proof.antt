@@ -6,7 +6,7 @@ use native.Mathlib.Omega.{arith}
 use lib.ListN.{length}
 use Rattle.leb128.specs.Number.{max_number}
 use Rattle.leb128_write.specs.Written.{written_number}
-use Rattle.leb128_write.specs.Laws.{past_written, is_written, length_known}
+use Rattle.leb128_write.proofs.Laws.{past_written, is_written, length_known}
 use Rattle.leb128_write.proofs.Writing.{none_large, none_room}
 use borrow.Author.Rules.{rules}
 use Rattle.leb128_write.proofs.write_number.Statement.{statement}
@@ -20,7 +20,8 @@ abbrev start : tie.After-number_length-length → tie.Start
 start n = n.before.before
 
 -- past the first test, the number is not above the largest
-known : (c : tie.Else-length-eq0) → let a = (start (asked c)).args in (a.value ≤ max_number) × ((asked c).number_length-length.result ≡ length (written_number a.value))
+known : (c : tie.Else-length-eq0) → let a = (start (asked c)).args in
+    (a.value ≤ max_number) × ((asked c).number_length-length.result ≡ length (written_number a.value))
 known c = let n = (asked c).number_length-length in length_known (start (asked c)).args.value n.result n.ensures c.if-length-eq0.false
 
 -- past all tests there is room

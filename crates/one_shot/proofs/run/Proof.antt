@@ -6,12 +6,12 @@ use Rattle.one_shot.proofs.Chain.{chained, refused_run}
 use Rattle.one_shot.proofs.run.Statement.{statement}
 use Rattle.one_shot.proofs.run.Tie as tie
 
-returns : tie.Need-returns
+returns : tie.Need-returns-then-number-ne-DONE
 returns c =
     let a = c.before.before.before.before.args in
-    refused_run a.number a.start a.message.now a.ending.now a.out.now (length a.out.now) c.if1.true
+    refused_run a.number a.start a.message.now a.ending.now a.out.now (length a.out.now) c.if-number-ne-DONE.true
 
-returns_2 : tie.Need-returns-2
+returns_2 : tie.Need-returns
 unfolding run_outcome run_output
 returns_2 c =
     let squeeze = c.before.before in
@@ -22,10 +22,10 @@ returns_2 c =
     let accepted = counted.before in
     let a = accepted.before.before.before.before.args in
     let output =
-    chained a.start.lanes first.absorb.new.0 second.absorb-ending.new.0 finish.finish.new.0 a.message.now a.ending.now
-    first.absorb.result second.absorb-ending.result a.start.suffix (length a.out.now) first.absorb.ensures.0
-    second.absorb-ending.ensures.0 second.absorb-ending.ensures.1 finish.finish.ensures in
-    (rw (accepted.if1.false, counted.runs.ensures), rw accepted.if1.false (squeeze.squeeze.ensures.1 ∙ output))
+    chained a.start.lanes first.absorb-position.new.lanes second.absorb_ending-end.new.lanes finish.finish.new.lanes a.message.now a.ending.now
+    first.absorb-position.result second.absorb_ending-end.result a.start.suffix (length a.out.now) first.absorb-position.ensures.0
+    second.absorb_ending-end.ensures.0 second.absorb_ending-end.ensures.1 finish.finish.ensures in
+    (rw (accepted.if-number-ne-DONE.false, counted.runs-taken.ensures), rw accepted.if-number-ne-DONE.false (squeeze.squeeze.ensures.1 ∙ output))
 
 pub run_spec : {M : Type 1} → statement M
 run_spec =

@@ -1,6 +1,6 @@
 -- The test is the definition's.
 use mathlib.Core.Path.{sym}
-use Rattle.pieces.specs.Laws.{cut_small, cut_large}
+use Rattle.pieces.proofs.Laws.{cut_small, cut_large}
 use Rattle.pieces.proofs.cut.Statement.{statement}
 use Rattle.pieces.proofs.cut.Tie as tie
 

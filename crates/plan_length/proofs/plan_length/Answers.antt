@@ -3,7 +3,7 @@ use Rattle.std.proofs.Common.{◌≡◌, sym, ap, ◌∙◌, ℕ, ◌+◌, ◌�
 use Rattle.leb128.specs.Number.{max_number}
 use Rattle.leb128_write.specs.Written.{written_number}
 use Rattle.leb128_write.specs.Answers.{number_length}
-use Rattle.leb128_write.specs.Laws.{groups_count, length_is_lem, length_known, length_none}
+use Rattle.leb128_write.proofs.Laws.{groups_count, length_is_lem, length_known, length_none}
 use Rattle.plan_read.specs.Limits.{max_rows}
 use Rattle.plan_length.proofs.Rows.{length_from, length_start, length_many, length_more, length_large, length_end}
 use Rattle.plan_length.proofs.plan_length.Goals as goal

@@ -54,7 +54,8 @@ module _ (number_at : ℕ → List ℕ → Parsed) (s : List ℕ) where
     rows_cond false p = refl
 
     after_number_lem : (p : Parsed) → Rest 0 s p
-        → rows_after (number_answer p) ≡ answer (after_number p (λ count next rest. cond (leb count max_rows) (rows_by number_at count next rest) (malformed 0)))
+        → rows_after (number_answer p) ≡ answer
+        (after_number p (λ count next rest. cond (leb count max_rows) (rows_by number_at count next rest) (malformed 0)))
     after_number_lem (value v next rest) u = rw (← u.1) (rows_cond (leb v max_rows) (rows_by number_at v next rest))
     after_number_lem (bad place) u = refl
 

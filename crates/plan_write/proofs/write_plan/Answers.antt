@@ -5,7 +5,7 @@ use Rattle.std.proofs.Math.Seq.{sets}
 use Rattle.answers.specs.Numbers.{done}
 use Rattle.leb128_write.specs.Written.{written_number}
 use Rattle.leb128_write.specs.Answers.{written_past, number_written}
-use Rattle.leb128_write.specs.Laws.{past_written, is_written}
+use Rattle.leb128_write.proofs.Laws.{past_written, is_written}
 use Rattle.plan_length.specs.Length.{written_rows, length_of}
 use Rattle.plan_length.specs.Laws.{plan_length}
 use Rattle.plan_length.specs.declared.PlanLength.{PlanLength}

@@ -9,7 +9,7 @@ use Rattle.session_start.proofs.start_cshake256.Tie as tie
 
 returns : tie.Need-returns
 unfolding begun
-returns c = c.start-session.ensures ∙ ap (λ (t : Started). started_session t false) c.before.start-named.ensures.is
+returns c = c.start_session.ensures ∙ ap (λ (t : Started). started_session t false) c.before.start_named.ensures.is
 
 pub start_cshake256_spec : {M : Type 1} → statement M
 start_cshake256_spec = tie.close (tie.spec (λ c κs. search rules) (λ c κs. search rules) returns)

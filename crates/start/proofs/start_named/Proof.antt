@@ -28,7 +28,8 @@ returns_3 : tie.Need-returns
 returns_3 c =
     let some = c.before.before in
     rw some.before.if-number-ne-DONE.false
-    (named_starts _ _ c.absorb_name-blocks.new.lanes c.absorb_name-blocks.result (accepted some.before) some.if-name-customisation-eq0.false c.absorb_name-blocks.ensures)
+    (named_starts _ _ c.absorb_name-blocks.new.lanes c.absorb_name-blocks.result (accepted some.before) some.if-name-customisation-eq0.false
+    c.absorb_name-blocks.ensures)
 
 pub start_named_spec : {M : Type 1} → statement M
 start_named_spec =

@@ -18,13 +18,14 @@ returns : tie.Need-returns
 returns c =
     let run = c.before.before in
     let first = run.before.before.before in
-    let started = first.before.start-named in
-    let s = first.before.before.before.before.before.before in
-    let n = first.extendable-refusal.ensures ∙ numbered (call s) started.result started.ensures in
+    let started = first.before.start_named-start in
+    let s = first.before.before.before.before.before.before.before in
+    let n = first.extendable_refusal-number.ensures ∙ numbered (call s) started.result started.ensures in
     answered (call s) started.result ([]) started.ensures (λ ok. refl) (omega arith)
-    first.extendable-refusal.result s.args.out.now run.run.new.1.1.1.1.0 run.run.result n refl run.run.ensures
+    first.extendable_refusal-number.result s.args.out.now run.run.new.out run.run.result n refl run.run.ensures
 
 pub cshake256_spec : {M : Type 1} → statement M
 cshake256_spec =
     tie.close
-    (tie.spec (λ c κs. search rules) (λ c κs. search rules) (λ c. search rules) (λ c κs. search rules) (λ c. search rules) returns)
+    (tie.spec
+    (λ c κs. search rules) (λ c κs. search rules) (λ c κs. search rules) (λ c. search rules) returns)

@@ -8,7 +8,7 @@ use borrow.Author.Tests.{le-ltb}
 use mathlib.Core.List.{List}
 use lib.ListN.{length, take}
 use Rattle.encode.specs.Encode.{right_encode}
-use Rattle.encode.specs.Laws.Answer.{answers_code, answers_take}
+use Rattle.encode.proofs.Laws.Answer.{answers_code, answers_take}
 use Rattle.calls.specs.Limits.{max_output}
 use Rattle.calls.specs.Call.{Call, KMAC256, kmac256, refusal}
 use Rattle.calls.specs.Laws.Refusal.{output_accepted}
@@ -20,8 +20,8 @@ use Rattle.hash.proofs.kmac.kmac256.Tie as tie
 abbrev call : tie.Start → Call KMAC256
 call s = kmac256 s.args.key.now s.args.message.now (length s.args.out.now) s.args.customisation.now
 
-slice_aggregate_run : tie.Need-slice-aggregate-run
-slice_aggregate_run c = answers_take c.before.before.right-encode.ensures
+slice_aggregate_run : tie.Need-slice_bounds-run-end
+slice_aggregate_run c = answers_take c.before.before.right_encode-code.ensures
 
 returns : tie.Need-returns
 returns c =
@@ -29,20 +29,20 @@ returns c =
     let coded = run.before.before.before.before in
     let bits = coded.before in
     let number = bits.before in
-    let started = number.before.start-keyed in
+    let started = number.before.start_keyed-start in
     let s = number.before.before.before.before.before.before in
     let X = s.args.message.now in
     let before = s.args.out.now in
-    let code = coded.right-encode in
+    let code = coded.right_encode-code in
     let e : List ℕ = take code.result.len code.result.bytes in
-    let n = number.kmac256-refusal.ensures ∙ numbered (call s) started.result started.ensures in
+    let n = number.kmac256_refusal-number.ensures ∙ numbered (call s) started.result started.ensures in
     let is : refusal (call s) ≡ 0 → e ≡ right_encode (8 * length before)
     = λ ok.
     let fits : length before ≤ max_output = output_fits KMAC256 (length before) (output_accepted (call s) ok) in
-    answers_code code.ensures ∙ ap right_encode (bits.output-bits.ensures ∙ simp (le-ltb _ _ fits)) in
+    answers_code code.ensures ∙ ap right_encode (bits.output_bits.ensures ∙ simp (le-ltb _ _ fits)) in
     let short : length e ≤ 9 = omega (arith, code.ensures.fits, answers_take code.ensures) in
     answered (call s) started.result e started.ensures is short
-    number.kmac256-refusal.result before run.run.new.1.1.1.1.0 run.run.result n refl run.run.ensures
+    number.kmac256_refusal-number.result before run.run.new.out run.run.result n refl run.run.ensures
 
 pub kmac256_spec : {M : Type 1} → statement M
 kmac256_spec =

@@ -5,11 +5,11 @@ use borrow.Author.Tests.{lt-ltb, le-ltb}
 use Rattle.hash.proofs.kmac.output_bits.Statement.{statement}
 use Rattle.hash.proofs.kmac.output_bits.Tie as tie
 
-returns : tie.Need-returns
-returns c = rw (lt-ltb _ _ c.if1.true)
+returns : tie.Need-returns-then-out-gt-MAX_OUTPUT
+returns c = rw (lt-ltb _ _ c.if-out-gt-MAX_OUTPUT.true)
 
-returns_2 : tie.Need-returns-2
-returns_2 c = rw (le-ltb _ _ c.if1.false)
+returns_2 : tie.Need-returns
+returns_2 c = rw (le-ltb _ _ c.if-out-gt-MAX_OUTPUT.false)
 
-pub output-bits-spec : {M : Type 1} → statement M
-output-bits-spec = tie.close (tie.spec returns (λ c. search rules) returns_2)
+pub output_bits_spec : {M : Type 1} → statement M
+output_bits_spec = tie.close (tie.spec returns (λ c. search rules) returns_2)

@@ -21,13 +21,14 @@ unfolding right_encode big_endian width_in
 returns c =
     let run = c.before.before in
     let first = run.before.before.before in
-    let started = first.before.start-keyed in
-    let s = first.before.before.before.before.before.before in
-    let n = first.extendable-refusal.ensures ∙ numbered (call s) started.result started.ensures in
+    let started = first.before.start_keyed-start in
+    let s = first.before.before.before.before.before.before.before in
+    let n = first.extendable_refusal-number.ensures ∙ numbered (call s) started.result started.ensures in
     answered (call s) started.result (0 ∷ 1 ∷ []) started.ensures (λ ok. refl) (omega arith)
-    first.extendable-refusal.result s.args.out.now run.run.new.1.1.1.1.0 run.run.result n refl run.run.ensures
+    first.extendable_refusal-number.result s.args.out.now run.run.new.out run.run.result n refl run.run.ensures
 
 pub kmacxof256_spec : {M : Type 1} → statement M
 kmacxof256_spec =
     tie.close
-    (tie.spec (λ c κs. search rules) (λ c κs. search rules) (λ c. search rules) (λ c κs. search rules) (λ c. search rules) returns)
+    (tie.spec
+    (λ c κs. search rules) (λ c κs. search rules) (λ c κs. search rules) (λ c. search rules) returns)

@@ -1,7 +1,7 @@
 -- A turn writes the row that comes next: the row is allowed and there is room for it, and what is left of both serves the rows after it.
 use Rattle.std.proofs.Common.{sym, ◌∙◌, ◌+◌, ◌≤◌, ◌<◌, length, get_or, arith}
 use Rattle.leb128_write.specs.Written.{written_number}
-use Rattle.leb128_write.specs.Laws.{past_written, is_written}
+use Rattle.leb128_write.proofs.Laws.{past_written, is_written}
 use Rattle.plan_write.proofs.Rows.{row_room, rows_sets, rows_end, first_allowed, others_allowed}
 use Rattle.plan_write.proofs.put.put_rows.Goals as goal
 

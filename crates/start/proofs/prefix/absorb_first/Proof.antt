@@ -8,7 +8,7 @@ use Rattle.encode.specs.declared.Code.{Code}
 use Rattle.encode.specs.Digits.{number_of}
 use Rattle.encode.specs.Encode.{left_encode}
 use Rattle.encode.specs.Answer.{code_of}
-use Rattle.encode.specs.Laws.Lengths.{length_encode_string, length_left_encode}
+use Rattle.encode.proofs.Laws.Lengths.{length_encode_string, length_left_encode}
 use Rattle.start.proofs.Strings.{encoded_rate, rate_encoded, headed_absorbed}
 use Rattle.start.proofs.prefix.absorb_first.Statement.{statement}
 use Rattle.start.proofs.prefix.absorb_first.Tie as tie

@@ -9,7 +9,7 @@ use Rattle.encode.specs.declared.Code.{Code}
 use Rattle.encode.specs.Digits.{number_of}
 use Rattle.encode.specs.Encode.{left_encode, encode_string, KMAC}
 use Rattle.encode.specs.Answer.{code_of}
-use Rattle.encode.specs.Laws.Lengths.{length_encode_string, length_left_encode}
+use Rattle.encode.proofs.Laws.Lengths.{length_encode_string, length_left_encode}
 use Rattle.encode.specs.Padding.{rate}
 use Rattle.start.proofs.Strings.{headed_absorbed, kmac_length, kmac_absorbed, joined_strings, padded_lanes, padded_blocks}
 use Rattle.start.proofs.prefix.absorb_kmac.Statement.{statement}

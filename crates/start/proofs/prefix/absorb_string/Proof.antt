@@ -5,8 +5,8 @@ use native.Mathlib.Omega.{arith}
 use borrow.Author.Rules.{rules}
 use lib.ListN.{length, take}
 use Rattle.encode.specs.Encode.{left_encode, encode_string}
-use Rattle.encode.specs.Laws.Answer.{answers_code, answers_length}
-use Rattle.encode.specs.Laws.Lengths.{length_encode_string, length_left_encode}
+use Rattle.encode.proofs.Laws.Answer.{answers_code, answers_length}
+use Rattle.encode.proofs.Laws.Lengths.{length_encode_string, length_left_encode}
 use Rattle.start.proofs.Strings.{string_absorbed}
 use Rattle.start.proofs.prefix.absorb_string.Statement.{statement}
 use Rattle.start.proofs.prefix.absorb_string.Tie as tie

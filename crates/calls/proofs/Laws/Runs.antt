@@ -4,13 +4,13 @@ use Rattle.std.proofs.Common.{arith, length-append}
 use Rattle.encode.specs.Digits.{width, width_in}
 use Rattle.encode.specs.Encode.{encode_string, right_encode, bytepad, KMAC}
 use Rattle.encode.specs.Padding.{rate, blocks}
-use Rattle.encode.specs.Laws.Lengths.{string_length, length_encode_string, length_right_encode, length_bytepad, length_padded}
+use Rattle.encode.proofs.Laws.Lengths.{string_length, length_encode_string, length_right_encode, length_bytepad, length_padded}
 use Rattle.calls.specs.Input.{cshake_prefix}
 use Rattle.calls.specs.Start.{Start, named, keyed, start_prefix}
 use Rattle.calls.specs.Call.{Function, cSHAKE256, KMAC256, KMACXOF256, Call, start_of, message_of, output_bytes, ending}
 use Rattle.calls.specs.Count.{output_runs, runs}
 use Rattle.calls.specs.Laws.Input.{is_shake-lengths}
-use Rattle.calls.specs.Laws.Fed.{fed_parts}
+use Rattle.calls.proofs.Laws.Fed.{fed_parts}
 
 -- the blocks of the bytes before cSHAKE256's message, for a name and a customisation of these lengths
 abbrev pub cshake_blocks : ℕ → ℕ → ℕ

@@ -8,7 +8,7 @@ use Rattle.calls.specs.Limits.{max_personalisation, max_seed, max_message, max_k
 use Rattle.calls.specs.Call.{input, Accepted, fed}
 use Rattle.calls.specs.Start.{is_reserved, start_refusal}
 use Rattle.calls.specs.Laws.Input.{fed_bytes-fixes}
-use Rattle.calls.specs.Laws.Fed.{kmac_message_fixes}
+use Rattle.calls.proofs.Laws.Fed.{kmac_message_fixes}
 use Rattle.calls.specs.Laws.Refusal.{extendable_accepted}
 use Rattle.seeding.specs.declared.Drng.{Drng}
 use Rattle.seeding.specs.declared.Drng.TheVariants.{Cshake, Kmac}

@@ -3,9 +3,9 @@ use Rattle.std.specs.Prelude.{◌≡◌, refl, List, ◌++◌, ℕ, ◌*◌, ◌
 use Rattle.std.proofs.Common.{ap, ◌∙◌, append_assoc, append-nil, arith, length-append}
 use Rattle.encode.specs.Padding.{rate, padded}
 use Rattle.encode.specs.Encode.{encode_string, right_encode, bytepad, KMAC}
-use Rattle.encode.specs.Laws.Encode.{encode_string-free, right_encode-free, bytepad_free}
-use Rattle.encode.specs.Laws.Lengths.{bytepad_blocks}
-use Rattle.encode.specs.Laws.Padding.{padded_after}
+use Rattle.encode.proofs.Laws.Encode.{encode_string-free, right_encode-free, bytepad_free}
+use Rattle.encode.proofs.Laws.Lengths.{bytepad_blocks}
+use Rattle.encode.proofs.Laws.Padding.{padded_after}
 use Rattle.calls.specs.Input.{fed_bytes}
 use Rattle.calls.specs.Start.{Start, named, keyed, start_prefix, start_suffix}
 use Rattle.calls.specs.Call.{Function, Call, cshake256, kmac256, kmacxof256, start_of, message_of, output_bytes, kmac_input, fed, ending, extendable, extendable_call}
@@ -16,7 +16,8 @@ kmac_parts : (K X : List ℕ) (L : ℕ) (S : List ℕ)
 unfolding fed_bytes start_prefix start_suffix
 kmac_parts K X L S = ap (padded 0x04) (simp append_assoc)
 
-pub fed_parts : {f : Function} (c : Call f) → fed c ≡ padded (start_suffix (start_of c)) (start_prefix (start_of c) ++ message_of c ++ ending f (output_bytes c))
+pub fed_parts : {f : Function} (c : Call f)
+    → fed c ≡ padded (start_suffix (start_of c)) (start_prefix (start_of c) ++ message_of c ++ ending f (output_bytes c))
 unfolding fed fed_bytes start_prefix start_suffix
 fed_parts (cshake256 X n N S) = rw append-nil
 fed_parts (kmac256 K X n S) = kmac_parts K X (8 * n) S

@@ -9,7 +9,7 @@ use Rattle.leb128.specs.Number.{Parsed, value, bad, last_group, next_group, grou
 use Rattle.leb128.specs.Laws.Reading.{limit_three, groups_used}
 use Rattle.leb128_write.specs.Written.{written_groups, written_number}
 use Rattle.leb128_write.specs.Answers.{number_length}
-use Rattle.leb128_write.specs.Laws.{groups_last, length_is_lem}
+use Rattle.leb128_write.proofs.Laws.{groups_last, length_is_lem}
 
 -- of a number v of at most `more` + 1 groups that was read at the place `at`, up to the place n: it is 0 only where it begins there, and the bytes are those
 -- of v written, and then the rest

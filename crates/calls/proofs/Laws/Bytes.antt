@@ -3,7 +3,8 @@ use Rattle.std.specs.Prelude.{◌≡◌, Bool, true, false, cond, List, [], ◌+
 use Rattle.std.proofs.Common.{arith}
 use Rattle.encode.specs.Padding.{rate}
 use Rattle.encode.specs.Encode.{encode_string, bytepad, KMAC}
-use Rattle.encode.specs.Laws.Bytes.{Bytes, append_bytes, encode_string-bytes, right_encode-bytes, bytepad_bytes, padded_bytes}
+use Rattle.encode.specs.Laws.Bytes.{Bytes}
+use Rattle.encode.proofs.Laws.Bytes.{append_bytes, encode_string-bytes, right_encode-bytes, bytepad_bytes, padded_bytes}
 use Rattle.answers.specs.Done.{over}
 use Rattle.answers.specs.Laws.{first_number-passed, over_passed}
 use Rattle.calls.specs.Limits.{max_key, max_name, max_customisation, max_output}
@@ -11,7 +12,7 @@ use Rattle.calls.specs.Input.{is_shake, cshake_prefix}
 use Rattle.calls.specs.Start.{Start, named, keyed, start_refusal, start_prefix, start_suffix}
 use Rattle.calls.specs.Call.{Function, cSHAKE256, KMAC256, KMACXOF256, Call, start_of, message_of, output_bytes, output_refusal, Accepted, fed, ending}
 use Rattle.calls.specs.Laws.Refusal.{start_accepted, output_accepted}
-use Rattle.calls.specs.Laws.Fed.{fed_parts}
+use Rattle.calls.proofs.Laws.Fed.{fed_parts}
 
 -- the name or key and the customisation of a start are bytes
 abbrev pub StartBytes : Start → Type 0

@@ -1,0 +1,4 @@
+-- Laws on the definitions, for the crates that build on them. None is needed to read a contract.
+pub mod Fed
+pub mod Runs
+pub mod Bytes
