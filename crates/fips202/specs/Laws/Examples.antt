@@ -1,6 +1,6 @@
 -- Worked examples, by computation: FIPS 202's table 2 is what the rule of ρ gives, and three rounds of a state of zeros.
 -- (All 24 rounds compute too, in some 18 seconds and 1.4 GB: a program runs those, `keccak_states`.)
-use Rattle.std.specs.Prelude.{◌≡◌, refl, List, [], ◌∷◌, map, ℕ, ◌+◌, ◌%◌, ◌^◌, replicate}
+use Rattle.std.specs.Prelude.{◌≡◌, refl, [], ◌∷◌, map, ◌+◌, ◌%◌, ◌^◌, replicate}
 use Rattle.fips202.specs.Fips202.{state, offset, rotl, rounds, round, theta, rho, pi, chi, iota, round_constant, rc, register, shifted}
 
 offsets : state offset

@@ -1,6 +1,6 @@
 -- Exclusive or of lanes, and the complement, which is exclusive or with a lane of ones.
 use Rattle.std.specs.Prelude.{◌≡◌, refl, ℕ, zero, suc, ◌+◌, ◌-◌, ◌*◌, ◌/◌, ◌%◌, ◌^◌, ◌<◌, min, max}
-use Rattle.std.proofs.Common.{sym, ap, ap₂, ◌∙◌, subst, add-zero, mod-eq_of_lt, pow-suc, arith, pow_pos}
+use Rattle.std.proofs.Common.{sym, ap, ap₂, ◌∙◌, add-zero, mod-eq_of_lt, pow-suc, arith, pow_pos}
 use Rattle.std.proofs.Math.Arith.{bin_ind}
 use Rattle.std.specs.Int.Bits.{bit_xor, bit_and, bit_or, differ, xor_step, and_step, or_step, xor_self, xor_zero_r, xor_add_and}
 use Rattle.std.proofs.lemmas.Nat.{xor_shr, xor_mod, xor_comm, xor_block, and_mask, or_lt}

@@ -1,6 +1,6 @@
 -- χ at a lane, p ^ (!q & r), where some of the three are held inverted, and where the result is: the forms that the code has.
 -- A name says which of p, q, r and of the result are inverted.
-use Rattle.std.specs.Prelude.{◌≡◌, refl, List, ℕ, ◌-◌, ◌^◌, ◌<◌, get_or}
+use Rattle.std.specs.Prelude.{◌≡◌, List, ℕ, ◌-◌, ◌^◌, ◌<◌, get_or}
 use Rattle.std.proofs.Common.{sym, ap, ◌∙◌, lit<}
 use Rattle.std.specs.Int.Bits.{bit_xor, bit_and, bit_or, xor_self, xor_zero_r}
 use Rattle.std.proofs.lemmas.Nat.{xor_comm, xor_lt}

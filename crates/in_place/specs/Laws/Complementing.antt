@@ -1,5 +1,5 @@
 -- The state with six lanes inverted: a round on what is held is the round on what is meant.
-use Rattle.std.specs.Prelude.{◌≡◌, refl, Bool, true, List, [], ◌∷◌, ℕ, zero, suc, ◌^◌, ◌<◌, T, ltb, length, get_or}
+use Rattle.std.specs.Prelude.{◌≡◌, refl, Bool, true, List, [], ◌∷◌, ℕ, zero, suc, ◌^◌, T, ltb, length, get_or}
 use Rattle.std.proofs.Common.{sym, ap, ◌∙◌, subst, ltb→lt, lit<}
 use Rattle.std.specs.Int.Bits.{bit_xor, xor_zero_r}
 use Rattle.fips202.specs.Fips202.{table_from, rotl, theta, rho, pi, chi, iota}

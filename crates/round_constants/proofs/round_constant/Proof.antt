@@ -1,6 +1,5 @@
 -- What `rc` ensures of the seven bits, and the law of `RoundConstants` that they make the constant of every round.
 -- The needs: the product, then for each bit the sum, and the cast.
-use native.Mathlib.Omega.{arith}
 use borrow.Author.Rules.{rules}
 use Rattle.round_constants.specs.Laws.RoundConstants.{assembled, assembled_is}
 use Rattle.round_constants.proofs.round_constant.Statement.{statement}

@@ -1,6 +1,6 @@
 -- The table of rc, FIPS 202's algorithm 5, over its whole period: entry t is rc t. One test, which antt computes: it goes down the table with the
 -- shift register beside it, so it takes 255 steps of the register.
-use Rattle.std.specs.Prelude.{◌≡◌, refl, Bool, true, List, [], ◌∷◌, ℕ, zero, suc, ◌+◌, ◌<◌, ◌%◌, T, eqb, length, get_or}
+use Rattle.std.specs.Prelude.{◌≡◌, Bool, true, List, [], ◌∷◌, ℕ, zero, suc, ◌+◌, ◌<◌, ◌%◌, T, eqb, length, get_or}
 use Rattle.std.proofs.Common.{sym, ap, ◌∙◌, add-zero, zero-add, add-suc, suc-add, le_of_suc-le-suc, not-suc-le-zero, mod-lt, eqb→eq, lit<}
 use Rattle.fips202.specs.Fips202.{rc, register, shifted}
 use Rattle.fips202.specs.Laws.Table.{both, both_left, both_right}
