@@ -3,7 +3,7 @@ use crate::case;
 use session::{Session, SessionAnswer};
 
 // A session, and the checksum so far.
-#[derive(Drop)]
+#[derive(Clone, Copy)]
 struct Step {
     session: Session,
     sum: u64,
