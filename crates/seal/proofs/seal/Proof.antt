@@ -17,19 +17,19 @@ use Rattle.seal.proofs.seal.Statement.{statement}
 use Rattle.seal.proofs.seal.Tie as tie
 
 -- the places of the calls, from the last on
-abbrev tagging : tie.After-struct-known → tie.After-make-tag
+abbrev tagging : tie.After-struct_known-1 → tie.After-make_tag-runs
 tagging c = c.before.before.before
 
-abbrev combining : tie.After-make-tag-arg2 → tie.After-combine-stream
+abbrev combining : tie.After-make-tag-arg2 → tie.After-combine_stream
 combining c = c.before.before.before.before.before.before
 
-abbrev streaming : tie.After-combine-stream → tie.After-begin-stream
+abbrev streaming : tie.After-combine_stream → tie.After-begin_stream-stream
 streaming c = c.before.before.before.before
 
-abbrev entry : tie.After-lengths-refusal → tie.Start
+abbrev entry : tie.After-lengths_refusal-number → tie.Start
 entry c = c.before.before.before.before.before.before.before
 
-abbrev start : tie.After-make-tag → tie.Start
+abbrev start : tie.After-make_tag-runs → tie.Start
 start m = entry (streaming (combining m.before)).before.before
 
 abbrev arguments : tie.Start → SealArguments
@@ -41,53 +41,53 @@ Within s =
     (length s.args.out.now) (length s.args.tag.now)
 
 -- what the lengths are once they are accepted
-within : (c : tie.Else1) → Within (entry c.before)
-within c = lengths_accepted _ _ _ _ _ _ _ (sym c.before.lengths-refusal.ensures ∙ c.if1.false)
+within : (c : tie.Else-number-ne-DONE) → Within (entry c.before)
+within c = lengths_accepted _ _ _ _ _ _ _ (sym c.before.lengths_refusal-number.ensures ∙ c.if-number-ne-DONE.false)
 
 -- no number is given for them
-accepted : (c : tie.Else1)
+accepted : (c : tie.Else-number-ne-DONE)
     → 0 ≡ seal_refusal kmac_aead (arguments (entry c.before)) (length (entry c.before).args.out.now)
     (length (entry c.before).args.tag.now)
-accepted c = sym c.if1.false ∙ c.before.lengths-refusal.ensures
+accepted c = sym c.if-number-ne-DONE.false ∙ c.before.lengths_refusal-number.ensures
 
-returns : tie.Need-returns
+returns : tie.Need-returns-then-number-ne-DONE
 returns c =
     let s = entry c.before in
-    let number = c.before.lengths-refusal in
-    seal_refused kmac_aead (arguments s) s.args.out.now s.args.tag.now number.result number.ensures c.if1.true
+    let number = c.before.lengths_refusal-number in
+    seal_refused kmac_aead (arguments s) s.args.out.now s.args.tag.now number.result number.ensures c.if-number-ne-DONE.true
 
 -- the stream and the tag are the construction's
-stream_is : (f : tie.After-begin-stream)
+stream_is : (f : tie.After-begin_stream-stream)
     → Streams (entry f.before.before).args.key.now (entry f.before.before).args.iv.now
-    (length (entry f.before.before).args.text.now) f.begin-stream.result
+    (length (entry f.before.before).args.text.now) f.begin_stream-stream.result
 stream_is f =
     let w = within f.before in
-    streams _ _ _ _ f.begin-stream.ensures (omega (arith, w.key)) w.iv (omega (arith, w.input))
+    streams _ _ _ _ f.begin_stream-stream.ensures (omega (arith, w.key)) w.iv (omega (arith, w.input))
 
-key_length : tie.Need-slice-aggregate-make-tag
+key_length : tie.Need-slice_bounds-make_tag-end
 key_length c = search rules
 
-tag_is : (m : tie.After-make-tag)
-    → Tags (streaming (combining m.before)).begin-stream.result.authentication (combining m.before).combine-stream.new.1.1.0
-    (start m).args.label.now m.make-tag.new.1.1.1.0 (length (start m).args.tag.now) m.make-tag.result
+tag_is : (m : tie.After-make_tag-runs)
+    → Tags (streaming (combining m.before)).begin_stream-stream.result.authentication (combining m.before).combine_stream.new.out
+    (start m).args.label.now m.make_tag-runs.new.tag (length (start m).args.tag.now) m.make_tag-runs.result
 tag_is m =
     let b = combining m.before in
     let w = within (streaming b).before in
-    tags _ _ _ _ _ _ m.make-tag.ensures (omega (arith, key_length m.before.before.before))
-    (omega (arith, b.combine-stream.kept.1.1.0, w.input, w.output)) w.long_tag
+    tags _ _ _ _ _ _ m.make_tag-runs.ensures (omega (arith, key_length m.before.before.before))
+    (omega (arith, b.combine_stream.kept.1.1.0, w.input, w.output)) w.long_tag
 
-seals_into : (m : tie.After-make-tag)
+seals_into : (m : tie.After-make_tag-runs)
     → Seals kmac_aead (arguments (start m)) (start m).args.out.now (start m).args.tag.now
-    (answer 0 ((streaming (combining m.before)).begin-stream.result.runs + m.make-tag.result))
-    (combining m.before).combine-stream.new.1.1.0 m.make-tag.new.1.1.1.0
+    (answer 0 ((streaming (combining m.before)).begin_stream-stream.result.runs + m.make_tag-runs.result))
+    (combining m.before).combine_stream.new.out m.make_tag-runs.new.tag
 seals_into m =
     let b = combining m.before in
     let f = streaming b in
-    seals (arguments (start m)) f.begin-stream.result (stream_is f) (start m).args.out.now (start m).args.tag.now
-    b.combine-stream.last.1.1.0 m.make-tag.new.1.1.1.0 m.make-tag.result (accepted f.before) (within f.before).output
-    b.combine-stream.ensures.0 (tag_is m)
+    seals (arguments (start m)) f.begin_stream-stream.result (stream_is f) (start m).args.out.now (start m).args.tag.now
+    b.combine_stream.last.1.1.0 m.make_tag-runs.new.tag m.make_tag-runs.result (accepted f.before) (within f.before).output
+    b.combine_stream.ensures.0 (tag_is m)
 
-returns_2 : tie.Need-returns-2
+returns_2 : tie.Need-returns
 returns_2 c = seals_into (tagging c)
 
 pub seal_spec : {M : Type 1} → statement M
