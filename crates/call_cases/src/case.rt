@@ -1,4 +1,5 @@
 // The parts of a case, and what is written for it: a line, or the checksum taken on.
+use std::io;
 
 // Where a block's cases begin.
 pub const FROM: usize = 4;
@@ -48,18 +49,18 @@ pub fn length(case: &[u8], at: usize) -> usize {
 
 // The case after one of this size.
 pub fn next(from: usize, size: usize) -> usize {
-    std::num::wrapping_add_usize(from, size)
+    from.wrapping_add(size)
 }
 
 // A heading, or the checksum that is then begun anew; the checksum after it.
-pub fn line(letter: u8, text: &[u8], sum: u64) -> u64 {
+pub fn line(rt: &impl Print, letter: u8, text: &[u8], sum: u64) -> io::Result<u64> {
     if letter == b'h' {
-        printing::print(text);
+        printing::print(rt, text)?;
     } else {
-        printing::print_number(sum);
+        printing::print_number(rt, sum)?;
     }
-    printing::print(b"\n");
-    0
+    println!(rt)?;
+    Ok(0)
 }
 
 // The checksum taken on by the number and the runs of an answer.
@@ -68,10 +69,7 @@ pub fn numbered(sum: u64, number: u8, runs: usize) -> u64 {
 }
 
 // Number, runs and bytes, on a line.
-pub fn print(number: u8, runs: usize, bytes: &[u8]) {
-    printing::print_number(number as u64);
-    printing::print(b" ");
-    printing::print_number(runs as u64);
-    printing::print(b" ");
-    printing::print_bytes(bytes);
+pub fn print(rt: &impl Print, number: u8, runs: usize, bytes: &[u8]) -> io::Result<()> {
+    print!(rt; "{number} {runs} ")?;
+    printing::print_bytes(rt, bytes)
 }

@@ -3,21 +3,21 @@
 use crate::case;
 use drng::{Generator, GeneratorAnswer};
 use seeding::Drng;
+use std::io;
 
 fn unwritten() -> [u8; 524288] {
     [0xaau8; 524288]
 }
 
-pub fn run(input: &[u8], from: usize, cases: usize) {
+pub fn run(rt: &impl Print, input: &[u8], from: usize, cases: usize) -> io::Result<()> {
     let mut generator = drng::fresh();
     let mut at = from;
-    let mut i: usize = 0;
-    while i < cases {
-        let next = answered(input, testing::rest(input, at), generator);
+    for _ in 0..cases {
+        let next = answered(rt, input, testing::rest(input, at), generator)?;
         generator = next;
         at = case::next(at, case::SHORT);
-        i += 1;
     }
+    Ok(())
 }
 
 // The generator that a case is of.
@@ -28,51 +28,61 @@ fn drng_of(letter: u8) -> Drng {
     }
 }
 
-fn answered(input: &[u8], it: &[u8], generator: Generator) -> Generator {
+fn answered(
+    rt: &impl Print,
+    input: &[u8],
+    it: &[u8],
+    generator: Generator,
+) -> io::Result<Generator> {
     let letter = testing::byte_at(it, 0);
     let first = case::string(input, it, case::FIRST);
     match letter {
         b'h' => {
-            case::line(letter, first, 0);
-            generator
+            case::line(rt, letter, first, 0)?;
+            Ok(generator)
         }
-        b'f' => drng::fresh(),
+        b'f' => Ok(drng::fresh()),
         b's' | b'k' => {
             let second = case::string(input, it, case::SECOND);
-            printed(generator::seed(drng_of(letter), generator, first, second))
+            printed(
+                rt,
+                generator::seed(drng_of(letter), generator, first, second),
+            )
         }
         _ => {
             let mut out = unwritten();
-            into(it, letter, first, generator, &mut out)
+            into(rt, it, letter, first, generator, &mut out)
         }
     }
 }
 
-fn printed(answer: GeneratorAnswer) -> Generator {
+fn printed(rt: &impl Print, answer: GeneratorAnswer) -> io::Result<Generator> {
     let generator = answer.generator;
     let key = generator.key;
-    case::print(answer.number, answer.runs, &key);
-    generator
+    case::print(rt, answer.number, answer.runs, &key)?;
+    Ok(generator)
 }
 
 // A draw into the first bytes of the buffer.
 fn into(
+    rt: &impl Print,
     it: &[u8],
     letter: u8,
     additional: &[u8],
     generator: Generator,
     buffer: &mut [u8],
-) -> Generator {
+) -> io::Result<Generator> {
     let n = case::output(it);
     if buffer.len() < n {
-        return generator;
+        return Ok(generator);
     }
-    let after = printed(generator::draw(drng_of(letter), generator, additional, &mut buffer[..n]));
+    let drawn = generator::draw(drng_of(letter), generator, additional, &mut buffer[..n]);
+    let after = printed(rt, drawn)?;
     match letter {
-        b'd' | b'm' => printing::print_bytes(testing::first(buffer, n)),
+        b'd' | b'm' => printing::print_bytes(rt, testing::first(buffer, n))?,
         _ => {
-            case::line(letter, b"", testing::add_bytes(0, buffer));
+            case::line(rt, letter, b"", testing::add_bytes(0, buffer))?;
         }
     }
-    after
+    Ok(after)
 }

@@ -1,24 +1,33 @@
 // cSHAKE256, KMAC256 and KMACXOF256: the letters c, m and x take the answer into the checksum, C, M and X write it.
 use crate::case;
 use answers::Outcome;
+use std::io;
 
-pub fn answered(input: &[u8], it: &[u8], letter: u8, sum: u64) -> u64 {
+pub fn answered(rt: &impl Print, input: &[u8], it: &[u8], letter: u8, sum: u64) -> io::Result<u64> {
     let mut out = [0xa5u8; 300];
-    into(input, it, letter, sum, &mut out)
+    into(rt, input, it, letter, sum, &mut out)
 }
 
 // The call into the first bytes of the buffer.
-fn into(input: &[u8], it: &[u8], letter: u8, sum: u64, buffer: &mut [u8]) -> u64 {
+fn into(
+    rt: &impl Print,
+    input: &[u8],
+    it: &[u8],
+    letter: u8,
+    sum: u64,
+    buffer: &mut [u8],
+) -> io::Result<u64> {
     let n = case::output(it);
     if buffer.len() < n {
-        return sum;
+        return Ok(sum);
     }
     let outcome = call(input, it, letter, &mut buffer[..n]);
     if letter < b'a' {
-        case::print(outcome.number, outcome.runs, testing::first(buffer, n));
-        return sum;
+        case::print(rt, outcome.number, outcome.runs, testing::first(buffer, n))?;
+        return Ok(sum);
     }
-    testing::add_bytes(case::numbered(sum, outcome.number, outcome.runs), buffer)
+    let numbered = case::numbered(sum, outcome.number, outcome.runs);
+    Ok(testing::add_bytes(numbered, buffer))
 }
 
 fn call(input: &[u8], it: &[u8], letter: u8, out: &mut [u8]) -> Outcome {

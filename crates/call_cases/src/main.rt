@@ -13,31 +13,32 @@ mod seals; // seals.rt: sealing and opening
 mod sessions; // sessions.rt: starting, taking and giving
 mod single; // single.rt: the calls that keep no state
 
-use libc::STDIN_FILENO;
+use std::io;
 
 // A block's buffer: what it holds is asked of none, so that the check need not know it.
 fn buffer() -> [u8; 393216] {
     [0u8; 393216]
 }
 
-fn main() {
+fn main(rt: HostRuntime) -> io::Result<()> {
+    let mut input = rt.stdin();
     let mut block = buffer();
-    let n = io::read_full(STDIN_FILENO, &mut block);
-    without_state(testing::first(&block, n));
-    let m = io::read_full(STDIN_FILENO, &mut block);
-    of_sessions(testing::first(&block, m));
-    let k = io::read_full(STDIN_FILENO, &mut block);
-    of_generators(testing::first(&block, k));
+    let n = reading::read_full(&mut input, &mut block)?;
+    without_state(&rt, testing::first(&block, n))?;
+    let m = reading::read_full(&mut input, &mut block)?;
+    of_sessions(&rt, testing::first(&block, m))?;
+    let k = reading::read_full(&mut input, &mut block)?;
+    of_generators(&rt, testing::first(&block, k))
 }
 
-fn without_state(block: &[u8]) {
-    single::run(block, case::FROM, case::word(block, 0));
+fn without_state(rt: &impl Print, block: &[u8]) -> io::Result<()> {
+    single::run(rt, block, case::FROM, case::word(block, 0))
 }
 
-fn of_sessions(block: &[u8]) {
-    sessions::run(block, case::FROM, case::word(block, 0));
+fn of_sessions(rt: &impl Print, block: &[u8]) -> io::Result<()> {
+    sessions::run(rt, block, case::FROM, case::word(block, 0))
 }
 
-fn of_generators(block: &[u8]) {
-    generators::run(block, case::FROM, case::word(block, 0));
+fn of_generators(rt: &impl Print, block: &[u8]) -> io::Result<()> {
+    generators::run(rt, block, case::FROM, case::word(block, 0))
 }

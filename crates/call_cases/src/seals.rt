@@ -1,9 +1,9 @@
 // Sealing and opening. l seals, and opens what its buffers then hold; o opens, its tag standing after the label, as many bytes as the second word says: both
 // take the answers into the checksum. O writes what o is answered. Strings: key, IV, text and label.
 use crate::case;
-use answers::Outcome;
+use std::io;
 
-pub fn answered(input: &[u8], it: &[u8], letter: u8, sum: u64) -> u64 {
+pub fn answered(rt: &impl Print, input: &[u8], it: &[u8], letter: u8, sum: u64) -> io::Result<u64> {
     let mut out = [0xa5u8; 300];
     let mut tag = [0xa5u8; 65];
     if letter == b'l' {
@@ -11,6 +11,7 @@ pub fn answered(input: &[u8], it: &[u8], letter: u8, sum: u64) -> u64 {
         let mut back = [0xa5u8; 300];
         let ciphertext = testing::first(&out, case::length(it, case::THIRD));
         return opened_into(
+            rt,
             input,
             it,
             letter,
@@ -21,6 +22,7 @@ pub fn answered(input: &[u8], it: &[u8], letter: u8, sum: u64) -> u64 {
         );
     }
     opened_into(
+        rt,
         input,
         it,
         letter,
@@ -57,6 +59,7 @@ fn sealed_into(input: &[u8], it: &[u8], sum: u64, out: &mut [u8], tag: &mut [u8]
 
 // Opens into the first bytes of the buffer; the checksum after it, unless a line is written.
 fn opened_into(
+    rt: &impl Print,
     input: &[u8],
     it: &[u8],
     letter: u8,
@@ -64,10 +67,10 @@ fn opened_into(
     ciphertext: &[u8],
     tag: &[u8],
     out: &mut [u8],
-) -> u64 {
+) -> io::Result<u64> {
     let n = case::output(it);
     if out.len() < n {
-        return sum;
+        return Ok(sum);
     }
     let outcome = open::open(
         case::string(input, it, case::FIRST),
@@ -78,10 +81,11 @@ fn opened_into(
         tag,
     );
     if letter == b'O' {
-        case::print(outcome.number, outcome.runs, testing::first(out, n));
-        return sum;
+        case::print(rt, outcome.number, outcome.runs, testing::first(out, n))?;
+        return Ok(sum);
     }
-    testing::add_bytes(case::numbered(sum, outcome.number, outcome.runs), out)
+    let numbered = case::numbered(sum, outcome.number, outcome.runs);
+    Ok(testing::add_bytes(numbered, out))
 }
 
 // The tag of an opening: bytes after the label.

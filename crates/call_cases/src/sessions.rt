@@ -1,6 +1,7 @@
 // Sessions: n and k start one of cSHAKE256 and of KMACXOF256, t takes a piece, g asks for output; all take the answer into the checksum. G writes it.
 use crate::case;
 use session::{Session, SessionAnswer};
+use std::io;
 
 // A session, and the checksum so far.
 #[derive(Clone, Copy)]
@@ -13,33 +14,38 @@ fn unwritten() -> [u8; 65536] {
     [0xa5u8; 65536]
 }
 
-pub fn run(input: &[u8], from: usize, cases: usize) {
+pub fn run(rt: &impl Print, input: &[u8], from: usize, cases: usize) -> io::Result<()> {
     let mut session = session::start_cshake256(b"", b"").session;
     let mut at = from;
     let mut sum: u64 = 0;
-    let mut i: usize = 0;
-    while i < cases {
-        let step = answered(input, testing::rest(input, at), session, sum);
-        let next = step.session;
-        session = next;
+    for _ in 0..cases {
+        let step = answered(rt, input, testing::rest(input, at), session, sum)?;
+        session = step.session;
         sum = step.sum;
         at = case::next(at, case::SHORT);
-        i += 1;
     }
+    Ok(())
 }
 
-fn answered(input: &[u8], it: &[u8], session: Session, sum: u64) -> Step {
+fn answered(
+    rt: &impl Print,
+    input: &[u8],
+    it: &[u8],
+    session: Session,
+    sum: u64,
+) -> io::Result<Step> {
     let letter = testing::byte_at(it, 0);
     match letter {
-        b'h' | b'e' => Step {
-            session,
-            sum: case::line(letter, case::string(input, it, case::FIRST), sum),
-        },
+        b'h' | b'e' => {
+            let text = case::string(input, it, case::FIRST);
+            let sum = case::line(rt, letter, text, sum)?;
+            Ok(Step { session, sum })
+        }
         b'g' | b'G' => {
             let mut out = unwritten();
-            into(it, letter, session, sum, &mut out)
+            into(rt, it, letter, session, sum, &mut out)
         }
-        _ => stepped(called(input, it, letter, session), sum),
+        _ => Ok(stepped(called(input, it, letter, session), sum)),
     }
 }
 
@@ -62,14 +68,21 @@ fn stepped(answer: SessionAnswer, sum: u64) -> Step {
 }
 
 // The ask for the first bytes of the buffer; the checksum takes in the bytes lent.
-fn into(it: &[u8], letter: u8, session: Session, sum: u64, buffer: &mut [u8]) -> Step {
+fn into(
+    rt: &impl Print,
+    it: &[u8],
+    letter: u8,
+    session: Session,
+    sum: u64,
+    buffer: &mut [u8],
+) -> io::Result<Step> {
     let n = case::output(it);
     if buffer.len() < n {
-        return Step { session, sum };
+        return Ok(Step { session, sum });
     }
     let answer = session::give(session, &mut buffer[..n]);
     if letter == b'G' {
-        case::print(answer.number, 0, testing::first(buffer, n));
+        case::print(rt, answer.number, 0, testing::first(buffer, n))?;
     }
-    stepped(answer, testing::add_bytes(sum, testing::first(buffer, n)))
+    Ok(stepped(answer, testing::add_bytes(sum, testing::first(buffer, n))))
 }

@@ -1,31 +1,33 @@
 // The hall entries, each asked for one case.
 use crate::{lists, show, written};
+use std::io;
 
 // What the case's letter asks for, and the checksum after it.
-pub fn asked<'a>(
+pub fn asked(
+    rt: &impl Print,
     letter: u8,
-    first: &'a [u8],
-    second: &'a [u8],
+    first: &[u8],
+    second: &[u8],
     number: u64,
     length: usize,
     sum: u64,
-) -> u64 {
+) -> io::Result<u64> {
     match letter {
-        b's' => return summed(first, sum, number, length),
-        b'e' => show::field(sum),
-        b'w' => written::written(number, first, second, length),
-        b'l' => line(first, length),
-        _ => printing::print(first),
+        b's' => return Ok(summed(first, sum, number, length)),
+        b'e' => show::field(rt, sum)?,
+        b'w' => written::written(rt, number, first, second, length)?,
+        b'l' => line(rt, first, length)?,
+        _ => printing::print(rt, first)?,
     }
-    printing::print(b"\n");
-    0
+    println!(rt)?;
+    Ok(0)
 }
 
 // What the plan has, the plan read into lists around the given length, and written again from what was read.
-fn line(plan: &[u8], entries: usize) {
-    show::summary(hall::read_halls(plan));
-    lists::read_each(plan, entries);
-    written::again(plan, entries);
+fn line(rt: &impl Print, plan: &[u8], entries: usize) -> io::Result<()> {
+    show::summary(rt, hall::read_halls(plan))?;
+    lists::read_each(rt, plan, entries)?;
+    written::again(rt, plan, entries)
 }
 
 // What a plan has, what it reads into lists of this length, and the answers for the chutes below the given one, from a multiple of 2^32 on, taken into the
@@ -33,11 +35,9 @@ fn line(plan: &[u8], entries: usize) {
 fn summed(plan: &[u8], sum: u64, chute: u64, length: usize) -> u64 {
     let read = show::add_summary(sum, hall::read_halls(plan));
     let mut all = lists::read(read, plan, length, length);
-    let mut i: u64 = (chute >> 32) << 32;
-    while i < chute {
+    for i in (chute >> 32) << 32..chute {
         let found = hall::destination(plan, i);
         all = show::add_answer(all, found.number, found.destination, found.place);
-        i += 1;
     }
     all
 }

@@ -1,6 +1,7 @@
 // Plans read into lent lists of every length around the needed one.
 use crate::show;
 use hall::HallSummary;
+use std::io;
 
 // Lists with room for every plan, whose elements are nothing that a plan has.
 pub fn kinds_room() -> [u8; 33000] {
@@ -21,10 +22,8 @@ fn value_at(values: &[u32], i: usize) -> u32 {
 // The checksum taken on by the first n values.
 fn add_values(sum: u64, values: &[u32], n: usize) -> u64 {
     let mut all = sum;
-    let mut i: usize = 0;
-    while i < n {
+    for i in 0..n {
         all = testing::add_number(all, value_at(values, i) as u64);
-        i += 1;
     }
     all
 }
@@ -50,11 +49,8 @@ pub fn read(sum: u64, plan: &[u8], n: usize, m: usize) -> u64 {
     let mut kinds = kinds_room();
     let mut values = values_room();
     let answered = show::add_summary(sum, read_into(plan, &mut kinds, &mut values, n, m));
-    let listed = testing::add_bytes(
-        answered,
-        testing::first(&kinds, std::num::wrapping_add_usize(n, 2)),
-    );
-    add_values(listed, &values, std::num::wrapping_add_usize(m, 2))
+    let listed = testing::add_bytes(answered, testing::first(&kinds, n.wrapping_add(2)));
+    add_values(listed, &values, m.wrapping_add(2))
 }
 
 // One less than n, n itself, or one more.
@@ -63,16 +59,15 @@ pub fn around(n: usize, k: u32) -> usize {
         return n;
     }
     if k == 2 {
-        return std::num::wrapping_add_usize(n, 1);
+        return n.wrapping_add(1);
     }
-    if 0 < n { n - 1 } else { 0 }
+    n.saturating_sub(1)
 }
 
 // All mixes of lists as long as they should be, shorter by one and longer by one.
-pub fn read_each(plan: &[u8], n: usize) {
-    let mut k: u32 = 0;
-    while k < 9 {
-        show::field(read(0, plan, around(n, k / 3), around(n, k % 3)));
-        k += 1;
+pub fn read_each(rt: &impl Print, plan: &[u8], n: usize) -> io::Result<()> {
+    for k in 0..9 {
+        show::field(rt, read(0, plan, around(n, k / 3), around(n, k % 3)))?;
     }
+    Ok(())
 }

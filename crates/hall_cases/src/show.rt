@@ -1,26 +1,22 @@
 // How the answers are written, and how they are summed up.
 use hall::HallSummary;
+use std::io;
 
 // A number and a blank.
-pub fn field(n: u64) {
-    printing::print_number(n);
-    printing::print(b" ");
+pub fn field(rt: &impl Print, n: u64) -> io::Result<()> {
+    print!(rt; "{n} ")
 }
 
 // A refusal, a value and a place.
-pub fn answer(number: u8, value: u64, place: usize) {
-    printing::print_number(number as u64);
-    printing::print(b":");
-    printing::print_number(value);
-    printing::print(b":");
-    field(place as u64);
+pub fn answer(rt: &impl Print, number: u8, value: u64, place: usize) -> io::Result<()> {
+    print!(rt; "{number}:{value}:{place} ")
 }
 
 // A refusal, what a hall plan has, and the place after how many entries.
-pub fn summary(found: HallSummary) {
-    answer(found.number, found.entries as u64, found.place);
-    field(found.outer as u64);
-    field(found.chutes as u64);
+pub fn summary(rt: &impl Print, found: HallSummary) -> io::Result<()> {
+    answer(rt, found.number, found.entries as u64, found.place)?;
+    field(rt, found.outer as u64)?;
+    field(rt, found.chutes as u64)
 }
 
 // The checksum taken on by a refusal, what a hall plan has, and the place.

@@ -1,5 +1,6 @@
 // Plans written from lists into buffers of every length around the needed one.
 use crate::{lists, show};
+use std::io;
 
 // A buffer with room for a byte more than any plan may have, and two past that.
 fn buffer_room() -> [u8; 65539] {
@@ -8,32 +9,30 @@ fn buffer_room() -> [u8; 65539] {
 
 // What writing into the first `lent` bytes of a buffer answers, the checksum of the buffer with two bytes past them and, where a plan was written, that of
 // reading it into lists.
-fn write_into(outer: u64, kinds: &[u8], values: &[u32], buffer: &mut [u8], lent: usize) {
+fn write_into(
+    rt: &impl Print,
+    outer: u64,
+    kinds: &[u8],
+    values: &[u32],
+    buffer: &mut [u8],
+    lent: usize,
+) -> io::Result<()> {
     if buffer.len() < lent {
-        return;
+        return Ok(());
     }
     let found = hall_write::write_halls(outer, kinds, values, &mut buffer[..lent]);
-    show::answer(
-        found.number,
-        testing::add_bytes(
-            0,
-            testing::first(&buffer[..], std::num::wrapping_add_usize(lent, 2)),
-        ),
-        found.place,
-    );
-    if found.number == 0 {
-        show::field(lists::read(
-            0,
-            testing::first(&buffer[..], lent),
-            kinds.len(),
-            values.len(),
-        ));
+    let sum = testing::add_bytes(0, testing::first(buffer, lent.wrapping_add(2)));
+    show::answer(rt, found.number, sum, found.place)?;
+    if found.number != 0 {
+        return Ok(());
     }
+    let read = lists::read(0, testing::first(buffer, lent), kinds.len(), values.len());
+    show::field(rt, read)
 }
 
-fn write(outer: u64, kinds: &[u8], values: &[u32], lent: usize) {
+fn write(rt: &impl Print, outer: u64, kinds: &[u8], values: &[u32], lent: usize) -> io::Result<()> {
     let mut buffer = buffer_room();
-    write_into(outer, kinds, values, &mut buffer, lent);
+    write_into(rt, outer, kinds, values, &mut buffer, lent)
 }
 
 // This length, one byte less and one more; none; and the limit and one byte more.
@@ -47,48 +46,56 @@ fn lent_length(length: usize, k: u32) -> usize {
 }
 
 // How long the plan of these lists is, and what writing answers for buffers around that length, or around another where they have no plan.
-fn write_each(outer: u64, kinds: &[u8], values: &[u32], otherwise: usize) {
+fn write_each(
+    rt: &impl Print,
+    outer: u64,
+    kinds: &[u8],
+    values: &[u32],
+    otherwise: usize,
+) -> io::Result<()> {
     let needed = hall_length::hall_length(outer, kinds, values);
-    show::answer(needed.number, needed.length as u64, needed.place);
+    show::answer(rt, needed.number, needed.length as u64, needed.place)?;
     let length = if needed.number == 0 {
         needed.length
     } else {
         otherwise
     };
-    let mut k: u32 = 0;
-    while k < 6 {
-        write(outer, kinds, values, lent_length(length, k));
-        k += 1;
+    for k in 0..6 {
+        write(rt, outer, kinds, values, lent_length(length, k))?;
     }
+    Ok(())
 }
 
 fn fill(values: &mut [u32], bytes: &[u8]) {
-    let mut i: usize = 0;
-    while i < values.len() {
-        values[i] = testing::word(testing::rest(bytes, (i % 33000) * 4));
-        i += 1;
+    for (i, value) in values.iter_mut().enumerate() {
+        *value = testing::word(testing::rest(bytes, (i % 33000) * 4));
     }
 }
 
 // The same for values of four bytes each.
-pub fn written(outer: u64, kinds: &[u8], bytes: &[u8], otherwise: usize) {
+pub fn written(
+    rt: &impl Print,
+    outer: u64,
+    kinds: &[u8],
+    bytes: &[u8],
+    otherwise: usize,
+) -> io::Result<()> {
     let mut values = lists::values_room();
     fill(&mut values, bytes);
     let count = bytes.len() / 4;
-    if count <= 33000 {
-        write_each(outer, kinds, &values[..count], otherwise);
+    if count > 33000 {
+        return Ok(());
     }
+    write_each(rt, outer, kinds, &values[..count], otherwise)
 }
 
 // The same for what a plan reads into lists of n entries.
-pub fn again(plan: &[u8], n: usize) {
+pub fn again(rt: &impl Print, plan: &[u8], n: usize) -> io::Result<()> {
     let mut kinds = lists::kinds_room();
     let mut values = lists::values_room();
     let found = lists::read_into(plan, &mut kinds, &mut values, n, n);
-    if found.number != 0 {
-        return;
+    if found.number != 0 || n > 33000 {
+        return Ok(());
     }
-    if n <= 33000 {
-        write_each(found.outer as u64, &kinds[..n], &values[..n], 0);
-    }
+    write_each(rt, found.outer as u64, &kinds[..n], &values[..n], 0)
 }

@@ -2,7 +2,7 @@
 // reference/keccak_states.py; the first two states are published ones.
 #![tactic(auto)]
 
-use libc::STDOUT_FILENO;
+use std::io;
 
 // 1,000 permutations.
 fn thousand(lanes: [u64; 25]) -> [u64; 25] {
@@ -13,20 +13,20 @@ fn thousand(lanes: [u64; 25]) -> [u64; 25] {
     state
 }
 
-fn print_state(lanes: [u64; 25]) {
-    for i in 0..25 {
-        io::print_hex(STDOUT_FILENO, lanes[i], 16);
-        io::write_all(STDOUT_FILENO, b"\n");
+fn print_state(rt: &impl Print, lanes: [u64; 25]) -> io::Result<()> {
+    for lane in lanes {
+        println!(rt; "{lane:016x}")?;
     }
+    Ok(())
 }
 
-fn main() {
+fn main(rt: HostRuntime) -> io::Result<()> {
     let once = keccak::keccak_p([0u64; 25]);
-    io::write_all(STDOUT_FILENO, b"once\n");
-    print_state(once);
+    println!(rt; "once")?;
+    print_state(&rt, once)?;
     let twice = keccak::keccak_p(once);
-    io::write_all(STDOUT_FILENO, b"twice\n");
-    print_state(twice);
-    io::write_all(STDOUT_FILENO, b"1002 times\n");
-    print_state(thousand(twice));
+    println!(rt; "twice")?;
+    print_state(&rt, twice)?;
+    println!(rt; "1002 times")?;
+    print_state(&rt, thousand(twice))
 }

@@ -1,68 +1,67 @@
 // The plan entries, each asked for one case.
 use plan_pair::Source;
+use std::io;
 
 // What the case's letter asks for, and the checksum after it.
-pub fn asked<'a>(letter: u8, first: &'a [u8], second: &'a [u8], chute: u64, sum: u64) -> u64 {
+pub fn asked(
+    rt: &impl Print,
+    letter: u8,
+    first: &[u8],
+    second: &[u8],
+    chute: u64,
+    sum: u64,
+) -> io::Result<u64> {
     match letter {
-        b's' => return summed(first, sum, chute),
-        b'e' => field(sum),
-        b'p' => row(first, second, chute),
-        _ => of_one(letter, first, chute),
+        b's' => return Ok(summed(first, sum, chute)),
+        b'e' => field(rt, sum)?,
+        b'p' => row(rt, first, second, chute)?,
+        _ => of_one(rt, letter, first, chute)?,
     }
-    end();
-    0
+    println!(rt)?;
+    Ok(0)
 }
 
-fn of_one(letter: u8, bytes: &[u8], chute: u64) {
+fn of_one(rt: &impl Print, letter: u8, bytes: &[u8], chute: u64) -> io::Result<()> {
     match letter {
-        b'h' => printing::print(bytes),
-        b'l' => line(bytes, chute),
-        b'w' => written(bytes),
-        b'm' => migrated(bytes),
-        _ => walked(bytes),
+        b'h' => printing::print(rt, bytes),
+        b'l' => line(rt, bytes, chute),
+        b'w' => written(rt, bytes),
+        b'm' => migrated(rt, bytes),
+        _ => walked(rt, bytes),
     }
-}
-
-fn end() {
-    printing::print(b"\n");
 }
 
 // A number and a blank.
-fn field(n: u64) {
-    printing::print_number(n);
-    printing::print(b" ");
+fn field(rt: &impl Print, n: u64) -> io::Result<()> {
+    print!(rt; "{n} ")
 }
 
 // A refusal, a value and a place.
-fn answer(number: u8, value: u64, place: usize) {
-    printing::print_number(number as u64);
-    printing::print(b":");
-    printing::print_number(value);
-    printing::print(b":");
-    field(place as u64);
+fn answer(rt: &impl Print, number: u8, value: u64, place: usize) -> io::Result<()> {
+    print!(rt; "{number}:{value}:{place} ")
 }
 
-fn chute(plan: &[u8], chute: u64) {
+fn chute(rt: &impl Print, plan: &[u8], chute: u64) -> io::Result<()> {
     let found = plan::destination(plan, chute);
-    answer(found.number, found.destination as u64, found.place);
+    answer(rt, found.number, found.destination as u64, found.place)
 }
 
 // The refusal, the number of rows and the place, then the answers for chute 0, the first, the one that the case names and the next, the row limit, and the
 // numbers around 2^32.
-fn line(plan: &[u8], last: u64) {
+fn line(rt: &impl Print, plan: &[u8], last: u64) -> io::Result<()> {
     let summary = plan::read_plan(plan);
-    answer(summary.number, summary.rows as u64, summary.place);
-    chute(plan, 0);
-    chute(plan, 1);
-    chute(plan, last);
-    chute(plan, std::num::wrapping_add_u64(last, 1));
-    far_chutes(plan);
+    answer(rt, summary.number, summary.rows as u64, summary.place)?;
+    chute(rt, plan, 0)?;
+    chute(rt, plan, 1)?;
+    chute(rt, plan, last)?;
+    chute(rt, plan, last.wrapping_add(1))?;
+    far_chutes(rt, plan)
 }
 
-fn far_chutes(plan: &[u8]) {
-    chute(plan, 4096);
-    chute(plan, 4294967295);
-    chute(plan, 4294967297);
+fn far_chutes(rt: &impl Print, plan: &[u8]) -> io::Result<()> {
+    chute(rt, plan, 4096)?;
+    chute(rt, plan, 4294967295)?;
+    chute(rt, plan, 4294967297)
 }
 
 fn added(sum: u64, number: u8, value: u32, place: usize) -> u64 {
@@ -76,16 +75,14 @@ fn added(sum: u64, number: u8, value: u32, place: usize) -> u64 {
 fn summed(plan: &[u8], sum: u64, chutes: u64) -> u64 {
     let summary = plan::read_plan(plan);
     let mut all = added(sum, summary.number, summary.rows, summary.place);
-    let mut i: u64 = 0;
-    while i < chutes {
+    for i in 0..chutes {
         let found = plan::destination(plan, i);
         all = added(all, found.number, found.destination, found.place);
-        i += 1;
     }
     all
 }
 
-fn source_number(source: Source) -> u64 {
+fn source_number(source: &Source) -> u64 {
     match source {
         Source::Neither => 0,
         Source::Site => 1,
@@ -94,101 +91,90 @@ fn source_number(source: Source) -> u64 {
 }
 
 // Where the row of a chute is, which plan is malformed, and the row's bytes: returned at once, and cut at their location.
-fn row<'a>(site: &'a [u8], house: &'a [u8], chute: u64) {
+fn row(rt: &impl Print, site: &[u8], house: &[u8], chute: u64) -> io::Result<()> {
     let location = plan_pair::row_location(site, house, chute);
-    let source = location.source;
-    let malformed = location.malformed;
-    answer(location.number, source_number(source), location.place);
-    field(source_number(malformed));
-    field(location.start as u64);
-    field(location.length as u64);
-    printing::print_bytes(plan_part::row_bytes(site, house, chute));
-    printing::print_bytes(plan_part::row_part(site, house, location));
+    let source = source_number(&location.source);
+    answer(rt, location.number, source, location.place)?;
+    field(rt, source_number(&location.malformed))?;
+    field(rt, location.start as u64)?;
+    field(rt, location.length as u64)?;
+    printing::print_bytes(rt, plan_part::row_bytes(site, house, chute))?;
+    printing::print_bytes(rt, plan_part::row_part(site, house, location))
 }
 
 // Rows of four bytes each: the length they take, and then the refusal and all of the buffer for that length, one byte more, one less, and none.
-fn written(bytes: &[u8]) {
+fn written(rt: &impl Print, bytes: &[u8]) -> io::Result<()> {
     let mut rows = [0u32; 4097];
     fill(&mut rows, bytes);
     let count = bytes.len() / 4;
-    if count <= 4097 {
-        write_each(&rows[..count]);
+    if count > 4097 {
+        return Ok(());
     }
+    write_each(rt, &rows[..count])
 }
 
 fn fill(rows: &mut [u32], bytes: &[u8]) {
-    let mut i: usize = 0;
-    while i < rows.len() {
-        rows[i] = testing::word(testing::rest(bytes, (i % 4097) * 4));
-        i += 1;
+    for (i, row) in rows.iter_mut().enumerate() {
+        *row = testing::word(testing::rest(bytes, (i % 4097) * 4));
     }
 }
 
-fn write_each(rows: &[u32]) {
+fn write_each(rt: &impl Print, rows: &[u32]) -> io::Result<()> {
     let needed = plan_length::plan_length(rows);
     let length = needed.length;
-    answer(needed.number, length as u64, needed.place);
-    write(rows, length);
-    write(rows, std::num::wrapping_add_usize(length, 1));
-    write(rows, if 0 < length { length - 1 } else { 0 });
-    write(rows, 0);
+    answer(rt, needed.number, length as u64, needed.place)?;
+    write(rt, rows, length)?;
+    write(rt, rows, length.wrapping_add(1))?;
+    write(rt, rows, length.saturating_sub(1))?;
+    write(rt, rows, 0)
 }
 
-fn write(rows: &[u32], lent: usize) {
+fn write(rt: &impl Print, rows: &[u32], lent: usize) -> io::Result<()> {
     let mut buffer = [238u8; 12300];
-    write_into(rows, &mut buffer, lent);
+    write_into(rt, rows, &mut buffer, lent)
 }
 
-fn write_into(rows: &[u32], buffer: &mut [u8], lent: usize) {
+fn write_into(rt: &impl Print, rows: &[u32], buffer: &mut [u8], lent: usize) -> io::Result<()> {
     if buffer.len() < lent {
-        return;
+        return Ok(());
     }
     let found = plan_write::write_plan(rows, &mut buffer[..lent]);
-    answer(
-        found.number,
-        testing::add_bytes(0, &buffer[..]),
-        found.place,
-    );
+    answer(rt, found.number, testing::add_bytes(0, buffer), found.place)
 }
 
 // The length of the migrated plan, and then the refusal and all of the buffer for that length, one byte more, one less, and the plan's own length.
-fn migrated(plan: &[u8]) {
+fn migrated(rt: &impl Print, plan: &[u8]) -> io::Result<()> {
     let needed = plan_migration::migrated_length(plan);
     let length = needed.length;
-    answer(needed.number, length as u64, needed.place);
-    migrate(plan, length);
-    migrate(plan, std::num::wrapping_add_usize(length, 1));
-    migrate(plan, if 0 < length { length - 1 } else { 0 });
-    migrate(plan, plan.len());
+    answer(rt, needed.number, length as u64, needed.place)?;
+    migrate(rt, plan, length)?;
+    migrate(rt, plan, length.wrapping_add(1))?;
+    migrate(rt, plan, length.saturating_sub(1))?;
+    migrate(rt, plan, plan.len())
 }
 
-fn migrate(plan: &[u8], lent: usize) {
+fn migrate(rt: &impl Print, plan: &[u8], lent: usize) -> io::Result<()> {
     let mut buffer = [238u8; 12300];
-    migrate_into(plan, &mut buffer, lent);
+    migrate_into(rt, plan, &mut buffer, lent)
 }
 
-fn migrate_into(plan: &[u8], buffer: &mut [u8], lent: usize) {
+fn migrate_into(rt: &impl Print, plan: &[u8], buffer: &mut [u8], lent: usize) -> io::Result<()> {
     if buffer.len() < lent {
-        return;
+        return Ok(());
     }
     let found = plan_migration::migrate(plan, &mut buffer[..lent]);
-    answer(
-        found.number,
-        testing::add_bytes(0, &buffer[..]),
-        found.place,
-    );
+    answer(rt, found.number, testing::add_bytes(0, buffer), found.place)
 }
 
 // Twelve asks of a walk: where it stands, and each refusal, destination and place.
-fn walked(plan: &[u8]) {
+fn walked(rt: &impl Print, plan: &[u8]) -> io::Result<()> {
     let mut cursor = plan_walk::start_at(plan);
-    let mut asks: u32 = 0;
-    while asks < 12 {
-        field(cursor.at as u64);
+    for _ in 0..12 {
+        field(rt, cursor.at as u64)?;
         let step = plan_walk::step_at(plan, cursor);
-        answer(step.number, step.destination as u64, step.place);
+        answer(rt, step.number, step.destination as u64, step.place)?;
         let next = step.next;
         cursor = next;
-        asks += 1;
     }
+    Ok(())
 }

@@ -6,7 +6,7 @@
 
 mod entries; // entries.rt: the entries' answers
 
-use libc::STDIN_FILENO;
+use std::io;
 
 // From here on a number of bytes means zeros.
 const ZEROS: u32 = 16777216;
@@ -23,25 +23,24 @@ fn many_zeros() -> [u8; 65600] {
     [0u8; 65600]
 }
 
-fn main() {
+fn main(rt: HostRuntime) -> io::Result<()> {
     let mut input = room();
-    let n = io::read_full(STDIN_FILENO, &mut input);
-    run(testing::first(&input, n));
+    let n = reading::read_full(&mut rt.stdin(), &mut input)?;
+    run(&rt, testing::first(&input, n))
 }
 
 // The cases one after another, with the checksum of those that are summed up.
-fn run(input: &[u8]) {
+fn run(rt: &impl Print, input: &[u8]) -> io::Result<()> {
     let zeros = many_zeros();
     let cases = testing::word(input);
     let mut at: usize = 4;
     let mut sum: u64 = 0;
-    let mut i: u32 = 0;
-    while i < cases {
+    for _ in 0..cases {
         let case = testing::rest(input, at);
-        sum = answered(case, &zeros, sum);
-        at = std::num::wrapping_add_usize(at, size(case));
-        i += 1;
+        sum = answered(rt, case, &zeros, sum)?;
+        at = at.wrapping_add(size(case));
     }
+    Ok(())
 }
 
 // How many bytes stand there for this number of them.
@@ -52,7 +51,7 @@ fn standing(n: u32) -> usize {
 fn size(case: &[u8]) -> usize {
     let first = standing(testing::word(testing::rest(case, 1)));
     let second = standing(testing::word(testing::rest(case, 5)));
-    std::num::wrapping_add_usize(HEAD, std::num::wrapping_add_usize(first, second))
+    HEAD.wrapping_add(first.wrapping_add(second))
 }
 
 // This number of the bytes that stand there, or of zeros.
@@ -66,11 +65,11 @@ fn lent<'a>(bytes: &'a [u8], zeros: &'a [u8], n: u32) -> &'a [u8] {
 fn chute_of(case: &[u8]) -> u64 {
     let low = testing::word(testing::rest(case, 9));
     let high = testing::word(testing::rest(case, 13));
-    std::num::wrapping_add_u64(low as u64, (high as u64) << 32)
+    (low as u64).wrapping_add((high as u64) << 32)
 }
 
 // A case's answer, and the checksum after it.
-fn answered<'a>(case: &'a [u8], zeros: &'a [u8], sum: u64) -> u64 {
+fn answered(rt: &impl Print, case: &[u8], zeros: &[u8], sum: u64) -> io::Result<u64> {
     let n = testing::word(testing::rest(case, 1));
     let body = testing::rest(case, HEAD);
     let first = lent(body, zeros, n);
@@ -80,6 +79,7 @@ fn answered<'a>(case: &'a [u8], zeros: &'a [u8], sum: u64) -> u64 {
         testing::word(testing::rest(case, 5)),
     );
     entries::asked(
+        rt,
         testing::byte_at(case, 0),
         first,
         second,

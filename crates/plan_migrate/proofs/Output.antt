@@ -39,7 +39,8 @@ filled l out after z e = go (fills l (length out)) refl z e
     go false k q w = absurd (omega arith)
 
 -- migrating into the first n bytes of the buffer, as many as were asked for, answered r and left `part` in them
-module _ (s out part : List ℕ) (n : ℕ) (r : PlanWritten) (room : n ≤ length out) (e : n ≡ (migrated_length_of s).length) (m : Migrates s (take n out) part r) where
+module _ (s out part : List ℕ) (n : ℕ) (r : PlanWritten) (room : n ≤ length out) (e : n ≡ (migrated_length_of s).length)
+    (m : Migrates s (take n out) part r) where
   lent : length (take n out) ≡ n
   lent = length-take-le n out room
 

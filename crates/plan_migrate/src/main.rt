@@ -4,7 +4,7 @@
 
 ghost use Rattle.plan_migrate.specs.Output.{Leaves};
 
-use libc::{STDIN_FILENO, STDOUT_FILENO};
+use std::io;
 
 // One byte more than a plan may have tells a plan that is too long, so no input is read further.
 const READ: usize = plan_read::MAX_PLAN + 1;
@@ -14,12 +14,12 @@ fn room() -> [u8; READ] {
     [0u8; READ]
 }
 
-fn main() {
+fn main(rt: HostRuntime) -> io::Result<()> {
     let mut buffer = room();
-    let n = io::read_full(STDIN_FILENO, &mut buffer);
+    let n = reading::read_full(&mut rt.stdin(), &mut buffer)?;
     let mut out = room();
     let length = migrate(&buffer[..n], &mut out);
-    io::write_all(STDOUT_FILENO, &out[..length]);
+    rt.write_all(&out[..length])
 }
 
 // Migrates the plan into the first bytes of the buffer, and answers how many these are: none where it is refused.
@@ -32,7 +32,8 @@ fn migrate(plan: &[u8], out: &mut [u8]) -> usize
         return 0; // the buffer is shorter than the plan, since no plan becomes longer
     }
     let written = plan_migration::migrate(plan, &mut out[..length]);
-    if written.number != answers::DONE {
+    let refused = written.number != answers::DONE;
+    if refused {
         return 0;
     }
     length

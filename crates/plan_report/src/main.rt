@@ -2,8 +2,8 @@
 // with the place at which the plan is malformed.
 #![tactic(auto)]
 
-use libc::{STDIN_FILENO, STDOUT_FILENO};
 use plan::PlanSummary;
+use std::io;
 
 // One byte more than a plan may have tells a plan that is too long, so no input is read further.
 const READ: usize = plan_read::MAX_PLAN + 1;
@@ -13,50 +13,35 @@ fn room() -> [u8; READ] {
     [0u8; READ]
 }
 
-fn main() {
+fn main(rt: HostRuntime) -> io::Result<()> {
     let mut buffer = room();
-    let n = io::read_full(STDIN_FILENO, &mut buffer);
-    report(&buffer[..n]);
-}
-
-// A word and a number after it, to the end of a line.
-fn line(word: &[u8], n: u64) {
-    io::write_all(STDOUT_FILENO, word);
-    io::print_decimal(STDOUT_FILENO, n);
-    io::write_all(STDOUT_FILENO, b"\n");
-}
-
-fn row_line(chute: u32, destination: u32) {
-    io::print_decimal(STDOUT_FILENO, chute as u64);
-    line(b" ", destination as u64);
+    let n = reading::read_full(&mut rt.stdin(), &mut buffer)?;
+    report(&rt, &buffer[..n])
 }
 
 // A refusal, and for a malformed plan the place.
-fn refused(summary: PlanSummary) {
-    io::write_all(STDOUT_FILENO, b"refused ");
-    io::print_decimal(STDOUT_FILENO, summary.number as u64);
-    if summary.number == answers::MALFORMED_PLAN {
-        io::write_all(STDOUT_FILENO, b" at ");
-        io::print_decimal(STDOUT_FILENO, summary.place as u64);
+fn refused(rt: &impl Print, summary: PlanSummary) -> io::Result<()> {
+    let number = summary.number;
+    if number == answers::MALFORMED_PLAN {
+        let place = summary.place;
+        return println!(rt; "refused {number} at {place}");
     }
-    io::write_all(STDOUT_FILENO, b"\n");
+    println!(rt; "refused {number}")
 }
 
-fn report(plan: &[u8]) {
+fn report(rt: &impl Print, plan: &[u8]) -> io::Result<()> {
     let summary = plan::read_plan(plan);
     if summary.number != answers::DONE {
-        refused(summary);
-        return;
+        return refused(rt, summary);
     }
     let rows = summary.rows;
-    line(b"rows ", rows as u64);
+    println!(rt; "rows {rows}")?;
     let mut cursor = plan_walk::start_at(plan);
-    let mut chute: u32 = 0;
-    while chute < rows {
+    for chute in 1..=rows {
         let answer = plan_walk::step_at(plan, cursor);
-        chute += 1;
-        row_line(chute, answer.destination);
+        println!(rt; "{chute} {}", answer.destination)?;
         let next = answer.next;
         cursor = next;
     }
+    Ok(())
 }

@@ -1,27 +1,20 @@
 // What the gate's programs write to standard output.
 #![tactic(auto)]
 
-use libc::STDOUT_FILENO;
-
-// Two hexadecimal digits.
-fn print_byte(byte: u8) {
-    io::print_hex(STDOUT_FILENO, byte as u64, 2);
-}
+use std::io;
 
 // Bytes in hexadecimal, and a line feed.
-pub fn print_bytes(bytes: &[u8]) {
-    let mut i = 0;
-    while i < bytes.len() {
-        print_byte(bytes[i]);
-        i += 1;
+pub fn print_bytes(rt: &impl Print, bytes: &[u8]) -> io::Result<()> {
+    for byte in bytes {
+        print!(rt; "{byte:02x}")?;
     }
-    print(b"\n");
+    print(rt, b"\n")
 }
 
-pub fn print(text: &[u8]) {
-    io::write_all(STDOUT_FILENO, text);
+pub fn print(rt: &impl Print, text: &[u8]) -> io::Result<()> {
+    rt.write_all(text)
 }
 
-pub fn print_number(number: u64) {
-    io::print_decimal(STDOUT_FILENO, number);
+pub fn print_number(rt: &impl Print, number: u64) -> io::Result<()> {
+    rt.print(number)
 }
