@@ -63,6 +63,7 @@ pub fn accept(runs: usize, key: [u8; KEY_BYTES]) -> GeneratorAnswer
 }
 
 // The number for a draw of `bytes` with an additional input of this length: the smallest that applies.
+#[tactic(auto, unfolding(crate::specs::Drng::draw_refusal))]
 pub fn draw_refusal(seeded: bool, additional: usize, bytes: usize) -> u8
     ensures { result ≡ draw_refusal seeded additional bytes }
 {
