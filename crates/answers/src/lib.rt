@@ -43,7 +43,7 @@ pub const NO_PLACE: usize = 0;
 
 // The permutations that a call took, 0 on a refusal, and its number; as C has it too.
 #[repr(C)]
-#[derive(Drop)]
+#[derive(Clone, Copy)]
 pub struct Outcome {
     pub runs: usize,
     pub number: u8,

@@ -8,7 +8,7 @@ ghost use Rattle.c_generator_state.specs.Generator.{imported_generator, exported
 use drng::{Generator, GeneratorAnswer, KEY_BYTES};
 
 #[repr(C)]
-#[derive(Drop)]
+#[derive(Clone, Copy)]
 pub struct CGenerator {
     pub key: [u8; KEY_BYTES],
     // 0 is never seeded.
@@ -16,7 +16,7 @@ pub struct CGenerator {
 }
 
 #[repr(C)]
-#[derive(Drop)]
+#[derive(Clone, Copy)]
 pub struct CGeneratorAnswer {
     pub generator: CGenerator,
     pub runs: usize,

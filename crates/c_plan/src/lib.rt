@@ -13,7 +13,7 @@ use plan_pair::Source;
 use plan_walk::Cursor;
 
 #[repr(C)]
-#[derive(Drop)]
+#[derive(Clone, Copy)]
 pub struct CRow {
     pub start: usize,
     pub length: usize,
@@ -53,7 +53,7 @@ pub fn row(site: &[u8], house: &[u8], chute: u64) -> CRow
 }
 
 #[repr(C)]
-#[derive(Drop)]
+#[derive(Clone, Copy)]
 pub struct CWalk {
     pub next: usize,
     pub place: usize,

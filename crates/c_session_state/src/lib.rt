@@ -7,7 +7,7 @@ ghost use Rattle.c_session_state.specs.Session.{imported_phase, imported_session
 use session_state::{Phase, Session, SessionAnswer};
 
 #[repr(C)]
-#[derive(Drop)]
+#[derive(Clone, Copy)]
 pub struct CSession {
     pub lanes: [u64; 25],
     pub taken: usize,
@@ -22,7 +22,7 @@ pub struct CSession {
 }
 
 #[repr(C)]
-#[derive(Drop)]
+#[derive(Clone, Copy)]
 pub struct CSessionAnswer {
     pub session: CSession,
     pub number: u8,

@@ -4,7 +4,7 @@ use session::{Session, SessionAnswer};
 use std::io;
 
 // A session, and the checksum so far.
-#[derive(Drop)]
+#[derive(Clone, Copy)]
 struct Step {
     session: Session,
     sum: u64,

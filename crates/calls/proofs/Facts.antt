@@ -1,6 +1,5 @@
 -- The refusals hold by computation; a count is worked out from the lengths alone (`runs_by_lengths`).
 use mathlib.Core.Path.{◌≡◌, refl, ◌∙◌}
-use mathlib.Core.List.{List}
 use Prim.Native.Nat.{ℕ, ◌+◌, ◌/◌}
 use Rattle.encode.specs.Digits.{width_in}
 use Rattle.encode.specs.Padding.{rate, blocks}

@@ -15,7 +15,7 @@ pub const MAX_ADDITIONAL: usize = 84;
 // The bytes of a key: `key_bytes` of `seeding`, specs/Seeding.antt.
 pub const KEY_BYTES: usize = 64;
 
-#[derive(Drop)]
+#[derive(Clone, Copy)]
 pub struct Generator {
     pub key: [u8; KEY_BYTES],
     // Whether it was ever seeded.
@@ -23,7 +23,7 @@ pub struct Generator {
 }
 
 // The number that a seeding or a draw is answered with, its count, and the state after it.
-#[derive(Drop)]
+#[derive(Clone, Copy)]
 pub struct GeneratorAnswer {
     pub number: u8,
     pub runs: usize,

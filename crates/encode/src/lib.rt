@@ -12,7 +12,7 @@ ghost use Rattle.encode.specs.Private.{big_endian_at};
 pub const RATE: usize = 136;
 
 // An encoded number: its first `len` bytes. The others are 0.
-#[derive(Drop)]
+#[derive(Clone, Copy)]
 pub struct Encoded {
     pub bytes: [u8; 9],
     pub len: usize,
@@ -68,7 +68,7 @@ pub fn left_encode(n: u64) -> Encoded
 }
 
 // An encoded number of at most eight bytes, as one word, the first byte the lowest, and how many they are.
-#[derive(Drop)]
+#[derive(Clone, Copy)]
 pub struct Code {
     pub word: u64,
     pub len: usize,

@@ -11,7 +11,7 @@ use seeding::Drng;
 use sponge::squeeze;
 
 // A key made by a seeding, and the seeding's permutations.
-#[derive(Drop)]
+#[derive(Clone, Copy)]
 pub struct NewKey {
     pub key: [u8; KEY_BYTES],
     pub runs: usize,

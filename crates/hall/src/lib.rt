@@ -11,7 +11,7 @@ use plan::Lookup;
 // The answer of reading a hall plan: 0, the outermost number of entries, and how many entries and chutes there are; or the refusal's number and, with 9, the
 // place at which the plan is malformed.
 #[repr(C)]
-#[derive(Drop)]
+#[derive(Clone, Copy)]
 pub struct HallSummary {
     pub entries: usize,
     pub place: usize,

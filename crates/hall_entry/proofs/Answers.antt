@@ -1,4 +1,4 @@
--- The code's answer for an entry, by the answers for its two numbers.
+-- The code's answer for an entry, from the number of its kind.
 use mathlib.Core.Path.{◌≡◌, refl, sym, ap, ◌∙◌}
 use mathlib.Core.List.{List}
 use mathlib.Core.Bool.{Bool, true, false, cond}

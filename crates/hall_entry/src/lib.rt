@@ -22,7 +22,7 @@ pub const HALL: u8 = 1;
 
 // What stands at a place: an entry, by its kind and its destination or its hall's number of entries, and the place past these two numbers; or the place of a
 // breach.
-#[derive(Drop)]
+#[derive(Clone, Copy)]
 pub enum EntryRead {
     Found { kind: u8, value: u32, next: usize },
     NotEntry(usize),

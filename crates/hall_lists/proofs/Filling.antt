@@ -1,27 +1,14 @@
 -- Stores of entries one after another: those to come, made on what is stored so far, are the stores of all entries.
-use mathlib.Core.Path.{◌≡◌, refl, sym, ap, ◌∙◌}
+use mathlib.Core.Path.{◌≡◌, sym, ap, ◌∙◌}
 use mathlib.Core.List.{List, [], ◌∷◌}
 use Prim.Native.Nat.{ℕ, zero, suc, ◌+◌, ◌-◌, ◌≤◌, ◌<◌}
 use native.Mathlib.Omega.{arith}
 use native.Mathlib.Numerals.{add-one}
 use lib.ListN.{length, drop, set, length-set}
 use lib.Seq.{sets}
-use Rattle.leb128.specs.Number.{Parsed, value, bad}
-use Rattle.leb128.specs.Answers.{number_answer}
-use Rattle.leb128.specs.declared.Number.{Number}
-use Rattle.leb128.specs.declared.Number.TheVariants.{Value, Bad}
 use Rattle.hall_entry.specs.Entries.{Entry, entry, kinds_of, values_of, first, wrong}
 use Rattle.hall_entry.specs.Bytes.{entry_head}
-use Rattle.hall_lists.specs.Sequence.{entries_start, in_sequence, StoresEntries}
-
--- where the entries start, from the outermost number's answer
-abbrev pub start_of : Number → ℕ
-start_of (Value n next) = next
-start_of (Bad place) = 0
-
-pub start_of_lem : (p : Parsed) → start_of (number_answer p) ≡ entries_start p
-start_of_lem (value n next rest) = refl
-start_of_lem (bad place) = refl
+use Rattle.hall_lists.specs.Sequence.{in_sequence, StoresEntries}
 
 pub record Filling (s : List ℕ) (start : ℕ) (kinds₀ values₀ : List ℕ) (count : ℕ) (kinds values : List ℕ) (at i : ℕ) : Type 0 where
   pub within : i ≤ count

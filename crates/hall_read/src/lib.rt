@@ -13,7 +13,7 @@ use leb128::Number;
 
 // How far a pass over a hall plan has come: the place that it stands at, the entries and the chutes before it, and the destination of the chute that is looked
 // for, 0 until it is found.
-#[derive(Drop)]
+#[derive(Clone, Copy)]
 pub struct Progress {
     pub at: usize,
     pub entries: usize,
@@ -22,7 +22,7 @@ pub struct Progress {
 }
 
 // What passing over entries comes to: how far it has come past them, or the place of the first breach.
-#[derive(Drop)]
+#[derive(Clone, Copy)]
 pub enum Pass {
     Reached(Progress),
     Breach(usize),
@@ -30,7 +30,7 @@ pub enum Pass {
 
 // What reading a whole hall plan finds: the outermost number of entries, how many entries and chutes there are, and the destination of one chute
 // (0 where there is none); or the refusal's number, 5 or 9, and the place at which the plan is malformed (0 with 5).
-#[derive(Drop)]
+#[derive(Clone, Copy)]
 pub enum HallRead {
     Halls {
         outer: u32,

@@ -2,14 +2,13 @@
 use mathlib.Core.Path.{◌≡◌, refl, sym, ap, ◌∙◌}
 use mathlib.Core.List.{List, [], ◌∷◌, ◌++◌}
 use mathlib.Core.Bool.{Bool, true, false, cond}
-use Prim.Native.Nat.{ℕ, zero, suc, ◌≤◌}
+use Prim.Native.Nat.{ℕ, ◌≤◌}
 use native.Mathlib.Omega.{arith}
 use lib.ListN.{length}
 use lib.Dec.{ltb, eqb}
 use borrow.Author.Tests.{eq-eqb}
 use Rattle.answers.specs.Numbers.{done, input_too_long}
 use Rattle.leb128.specs.Number.{Parsed, value, bad, max_number}
-use Rattle.leb128.specs.Laws.Reading.{Used, groups_used, limit_three}
 use Rattle.plan_read.specs.Limits.{max_plan}
 use Rattle.plan_read.specs.Plan.{plan_number}
 use Rattle.plan.specs.Answers.{lookup_of, lookup_in}

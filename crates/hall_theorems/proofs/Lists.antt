@@ -7,9 +7,8 @@ use native.Mathlib.Nat.{le_trans, le-max_left, le-max_right}
 use native.Mathlib.Omega.{arith}
 use lib.ListN.{length, length-append, length-map}
 use borrow.Author.Tests.{lt-ltb, le-leb, eq-eqb}
-use Rattle.leb128.specs.Number.{max_number}
 use Rattle.hall_entry.specs.Limits.{max_chutes, levels_below}
-use Rattle.hall_entry.specs.Entries.{Entry, entry, chute_kind, hall_kind, kinds_of, values_of, destinations, Read, reached, entries_with, inner_of, entries_of}
+use Rattle.hall_entry.specs.Entries.{Entry, chute_kind, hall_kind, kinds_of, values_of, reached, entries_with, inner_of, entries_of}
 use Rattle.hall_entry.specs.Laws.Induction.{chute_destinations, hall_destinations}
 use Rattle.hall_check.specs.Lists.{pairs, list_head, halls_allowed, lists_allowed}
 use Rattle.hall_theorems.specs.Tree.{Hall, none, chute, inner, count, listed, destinations_of, levels_of, NumbersFit, HallLimits}

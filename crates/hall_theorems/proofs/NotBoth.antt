@@ -1,6 +1,6 @@
 -- Bytes that are accepted as a flat plan and as a hall plan have no rows and no entries: n rows are n numbers, and n entries are 2 n or more.
 use mathlib.Core.Path.{◌≡◌, refl, sym, ap, ◌∙◌}
-use mathlib.Core.List.{List, [], ◌∷◌, ◌++◌}
+use mathlib.Core.List.{List, [], ◌∷◌}
 use mathlib.Core.Bool.{Bool, true, false, cond}
 use Prim.Native.Nat.{ℕ, zero, suc, ◌+◌, ◌-◌, ◌≤◌}
 use native.Mathlib.Omega.{arith}
@@ -15,7 +15,7 @@ use Rattle.plan_read.specs.Laws.Refusals.{Numbered, plan_numbered}
 use Rattle.plan_read.specs.declared.Row.{Row}
 use Rattle.plan.specs.Answers.{summary, summary_of}
 use Rattle.hall_entry.specs.Limits.{levels_below}
-use Rattle.hall_entry.specs.Entries.{Entry, entry, chute_kind, kind_allowed, destinations, first, wrong, Read, reached, breach, entries_of}
+use Rattle.hall_entry.specs.Entries.{Entry, chute_kind, kind_allowed, first, wrong, Read, reached, breach, entries_of}
 use Rattle.hall_entry.specs.Bytes.{valued, kind_breach, judged, byte_head}
 use Rattle.hall_entry.specs.Laws.Induction.{AllGood, WithNone, WithChute, WithHall, reads_good}
 use Rattle.hall_read.specs.Halls.{HallPlan, halls, refused as refused_halls, nothing_after, with_outer, halls_of}

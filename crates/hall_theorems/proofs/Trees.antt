@@ -2,18 +2,16 @@
 use mathlib.Core.Path.{◌≡◌, refl, sym, ap, ◌∙◌}
 use mathlib.Core.List.{List, [], ◌∷◌, ◌++◌}
 use mathlib.Core.Bool.{Bool, true, false, cond}
-use Prim.Native.Nat.{ℕ, zero, suc, ◌+◌, ◌≤◌, ◌<◌}
+use Prim.Native.Nat.{ℕ, zero, suc, ◌+◌, ◌≤◌}
 use native.Mathlib.Nat.{max-le}
 use native.Mathlib.Omega.{arith}
 use lib.ListN.{length, length-append}
-use lib.Dec.{ltb}
-use borrow.Author.Tests.{ltb-true}
 use Rattle.answers.specs.Breaches.{place_of}
 use Rattle.leb128.specs.Number.{Parsed, value, bad, max_number}
 use Rattle.leb128.specs.Laws.Reading.{Used, groups_used, limit_three}
 use Rattle.plan_read.specs.Plan.{plan_number}
-use Rattle.hall_entry.specs.Limits.{max_chutes, max_levels, levels_below}
-use Rattle.hall_entry.specs.Entries.{Entry, entry, chute_kind, hall_kind, destinations, kind_allowed, Head, first, wrong, entries_of}
+use Rattle.hall_entry.specs.Limits.{max_chutes}
+use Rattle.hall_entry.specs.Entries.{Entry, entry, chute_kind, hall_kind, destinations, kind_allowed, first, wrong, entries_of}
 use Rattle.hall_entry.specs.Bytes.{valued, kind_breach, judged, byte_head}
 use Rattle.hall_entry.specs.Laws.Heads.{Kind, kind_known}
 use Rattle.hall_entry.specs.Laws.Induction.{AllGood, reads_good, chute_destinations, hall_destinations}

@@ -7,7 +7,7 @@ use Rattle.leb128_write.specs.Written.{written_number}
 use Rattle.leb128_write.proofs.Laws.{number_read}
 use Rattle.plan_read.specs.Limits.{max_plan}
 use Rattle.hall_entry.specs.Limits.{levels_below}
-use Rattle.hall_entry.specs.Entries.{Entry, entry, chute_kind, destinations, first, reached, entries_with, inner_of, entries_of}
+use Rattle.hall_entry.specs.Entries.{Entry, chute_kind, destinations, first, reached, entries_with, inner_of, entries_of}
 use Rattle.hall_entry.specs.Bytes.{byte_head}
 use Rattle.hall_entry.specs.Laws.Heads.{kind_known}
 use Rattle.hall_entry.specs.Laws.Induction.{AllGood, WithNone, WithChute, WithHall, reads_good, hall_destinations}

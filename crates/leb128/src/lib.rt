@@ -9,7 +9,7 @@ ghost use Rattle.leb128.specs.Answers.{ReadsNumber};
 pub const MAX_NUMBER: u32 = 2097151;
 
 // What reading a number finds: its value and the place past it, or the place at which reading failed.
-#[derive(Drop)]
+#[derive(Clone, Copy)]
 pub enum Number {
     Value { value: u32, next: usize },
     Bad(usize),

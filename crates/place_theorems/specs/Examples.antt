@@ -1,6 +1,6 @@
 -- Each row of the table of places (docs/RULES.md, 'Places') on both sides of it, by the answers that the entries promise; the 4,096th chute and the next, whose
 -- plans are long, by the entry reader.
-use Rattle.std.specs.Prelude.{ℕ, ◌≡◌, List, [], ◌∷◌}
+use Rattle.std.specs.Prelude.{ℕ, ◌≡◌, [], ◌∷◌}
 use Rattle.answers.specs.Numbers.{done, malformed_plan, no_such_chute}
 use Rattle.answers.specs.Breaches.{no_place}
 use Rattle.plan.specs.Answers.{found_destination, no_destination, summary_of, lookup_of}

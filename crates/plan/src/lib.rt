@@ -8,7 +8,7 @@ use plan_read::{PlanRead, Row};
 
 // The answer of reading a plan: 0 and the number of rows, or the refusal's number and, with 9, the place at which the plan is malformed.
 #[repr(C)]
-#[derive(Drop)]
+#[derive(Clone, Copy)]
 pub struct PlanSummary {
     pub place: usize,
     pub rows: u32,
@@ -43,7 +43,7 @@ pub fn has_chute(count: u32, chute: u64) -> bool
 }
 
 // The row of one chute: 0 and the row, or the refusal's number and, with 9, the place at which the plan is malformed; and a row that is all 0.
-#[derive(Drop)]
+#[derive(Clone, Copy)]
 pub struct ChuteRow {
     pub number: u8,
     pub row: Row,
@@ -84,7 +84,7 @@ pub fn row_of(plan: &[u8], chute: u64) -> ChuteRow
 
 // The answer for one chute: 0 and the destination, or the refusal's number and, with 9, the place at which the plan is malformed.
 #[repr(C)]
-#[derive(Drop)]
+#[derive(Clone, Copy)]
 pub struct Lookup {
     pub place: usize,
     pub destination: u32,

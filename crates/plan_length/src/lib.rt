@@ -6,7 +6,7 @@ ghost use Rattle.plan_length.specs.Length.{no_length, length_of, write_answer};
 
 // How many bytes a plan takes: 0 and the length, or the refusal's number. The place is that of no breach, but where a plan to be migrated is malformed.
 #[repr(C)]
-#[derive(Drop)]
+#[derive(Clone, Copy)]
 pub struct PlanLength {
     pub length: usize,
     pub place: usize,
@@ -15,7 +15,7 @@ pub struct PlanLength {
 
 // The answer of writing a plan, flat or of halls: 0, or the refusal's number. The place is that of no breach, but where a plan to be migrated is malformed.
 #[repr(C)]
-#[derive(Drop)]
+#[derive(Clone, Copy)]
 pub struct PlanWritten {
     pub place: usize,
     pub number: u8,

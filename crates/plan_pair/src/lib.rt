@@ -18,7 +18,7 @@ pub enum Source {
 
 // Where the bytes of a row are: 0 or the refusal's number, the plan that they are a part of, where they start in it and how many they are. With 9, the plan
 // that is malformed, and the place in it.
-#[derive(Drop)]
+#[derive(Clone, Copy)]
 pub struct RowLocation {
     pub number: u8,
     pub source: Source,

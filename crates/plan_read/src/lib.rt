@@ -16,7 +16,7 @@ pub const MAX_ROWS: u32 = 4096;
 pub const MAX_DESTINATION: u32 = leb128::MAX_NUMBER;
 
 // A row: its destination, and where its bytes start and end in the plan.
-#[derive(Drop)]
+#[derive(Clone, Copy)]
 pub struct Row {
     pub destination: u32,
     pub start: usize,
@@ -24,7 +24,7 @@ pub struct Row {
 }
 
 // What the row reader finds at a place: a row, or the place at which reading failed.
-#[derive(Drop)]
+#[derive(Clone, Copy)]
 pub enum RowRead {
     Found(Row),
     NotRow(usize),
@@ -70,7 +70,7 @@ fn row_of(read: RowRead) -> Row
 
 // What reading a whole plan finds: the number of rows and the row of one chute (all 0 where there is none); or the refusal's number, 5 or 9, and the place
 // at which the plan is malformed (0 with 5).
-#[derive(Drop)]
+#[derive(Clone, Copy)]
 pub enum PlanRead {
     Rows { count: u32, row: Row },
     Refused { number: u8, place: usize },

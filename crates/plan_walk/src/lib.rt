@@ -17,7 +17,7 @@ pub struct Cursor {
 }
 
 // The answer to an ask, and where the walk stands after it; with 9 the place at which the plan is malformed.
-#[derive(Drop)]
+#[derive(Clone, Copy)]
 pub struct WalkAnswer {
     pub number: u8,
     pub destination: u32,

@@ -8,7 +8,7 @@ ghost use Rattle.plan_walker.specs.Walker.{walker_at, asks, moved};
 use plan_walk::{Cursor, WalkAnswer};
 
 // The lent plan, and where the walk over it stands.
-#[derive(Drop)]
+#[derive(Clone, Copy)]
 pub struct Walker<'a> {
     pub plan: &'a [u8],
     pub cursor: Cursor,

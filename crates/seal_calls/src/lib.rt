@@ -16,7 +16,7 @@ use message::absorb_message;
 use sponge::squeeze;
 
 // A key stream of which the authentication key has been squeezed.
-#[derive(Drop)]
+#[derive(Clone, Copy)]
 pub struct Stream {
     pub authentication: [u8; AUTHENTICATION_KEY_LENGTH],
     pub lanes: [u64; 25],

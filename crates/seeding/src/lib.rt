@@ -8,7 +8,7 @@ ghost use Rattle.seeding.specs.Seeding.{seed_lengths_refusal};
 use answers::{DONE, INPUT_TOO_LONG, STRING_TOO_LONG};
 
 // The paper's two generators, by the function that each is made of.
-#[derive(Drop)]
+#[derive(Clone, Copy)]
 pub enum Drng {
     // cSHAKE-DRNG: cSHAKE256.
     Cshake,

@@ -10,7 +10,7 @@ use session_state::{Phase, Session};
 use sponge::{absorb, finish};
 
 // The sponge that a session gives from.
-#[derive(Drop)]
+#[derive(Clone, Copy)]
 pub struct Sponge {
     pub lanes: [u64; 25],
     pub position: usize,

@@ -32,7 +32,7 @@ pub struct Session {
 }
 
 // What a call hands back: its number and the session after it.
-#[derive(Drop)]
+#[derive(Clone, Copy)]
 pub struct SessionAnswer {
     pub number: u8,
     pub session: Session,

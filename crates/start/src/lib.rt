@@ -10,7 +10,7 @@ use prefix::{absorb_key, absorb_kmac, absorb_name};
 mod prefix;
 
 // The sponge after the prefix. The message begins at position 0 of the next block.
-#[derive(Drop)]
+#[derive(Clone, Copy)]
 pub struct Started {
     // 0, or the refusal; then all else is 0.
     pub number: u8,

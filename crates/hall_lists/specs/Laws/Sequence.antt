@@ -1,6 +1,6 @@
 -- Laws of entries one after another: the entries of a hall plan are these.
 use Rattle.std.specs.Prelude.{◌≡◌, refl, List, [], ◌∷◌, ◌++◌, Bool, true, false, cond, ℕ, zero, suc, ◌+◌, ◌≤◌, length, drop, ltb}
-use Rattle.std.proofs.Common.{sym, ap, ◌∙◌, append-nil, append_assoc, arith, length-append}
+use Rattle.std.proofs.Common.{ap, ◌∙◌, append-nil, append_assoc, arith, length-append}
 use Rattle.answers.specs.Numbers.{input_too_long}
 use Rattle.answers.specs.Breaches.{place_of}
 use Rattle.leb128.specs.Number.{Parsed, value, bad}
@@ -12,7 +12,7 @@ use Rattle.hall_entry.specs.Bytes.{valued, kind_breach, judged, byte_head, entry
 use Rattle.hall_entry.specs.Laws.Induction.{AllGood, reads_good}
 use Rattle.hall_entry.specs.Laws.Bytes.{NumberAfter, number_inside}
 use Rattle.hall_read.specs.Halls.{HallPlan, halls, refused, nothing_after, with_outer, halls_of}
-use Rattle.hall_lists.specs.Sequence.{entries_start, cons_entry, in_sequence}
+use Rattle.hall_lists.specs.Sequence.{entries_start, in_sequence}
 
 -- an entry that may stand somewhere stands first where nothing limits it
 free_zero : (b : Bool) (h : Head ℕ) (place k v next : ℕ) (rest : List ℕ) → cond b h (wrong place) ≡ first k v next rest → h ≡ first k v next rest

@@ -4,7 +4,6 @@ use mathlib.Core.Bool.{cond}
 use Prim.Native.Nat.{ℕ, zero, suc}
 use borrow.Author.Rules.{rules}
 use lib.Dec.{eqb}
-use lib.ListN.{length}
 use Rattle.answers.specs.Numbers.{done, bad_output_length}
 use Rattle.answers.specs.Done.{first_number, over}
 use Rattle.calls.specs.Limits.{max_output}

@@ -1,5 +1,5 @@
 -- The hall reader passes over the entries one by one: what is left to pass over, from the place reached, comes to the answer; bytes left fall.
--- The two readers call each other with a level fewer left, and the hall reader calls the entry reader at the same level: so levels left fall.
+-- The hall reader calls the entry reader at its own level, and the entry reader calls it with a level fewer left: so levels left fall.
 use Rattle.std.proofs.Common.{◌-◌, ◌≡◌, ◌+◌, ◌≤◌, length, drop, ◌*◌}
 use Rattle.hall_entry.specs.Entries.{entries_of}
 use Rattle.hall_entry.specs.Bytes.{byte_head}

@@ -1,4 +1,4 @@
--- Past a chute: the definition's own cases, by whether it is the chute that is looked for.
+-- One entry and one chute more; its destination is found where its number is the one looked for.
 use Rattle.std.proofs.Common.{sym, ◌∙◌}
 use Rattle.std.proofs.lemmas.Bool.{eq-eqb, ne_eqb}
 use Rattle.hall_read.specs.Laws.Kept.{moved_chute}
