@@ -30,7 +30,8 @@ module _ (kinds values : List ℕ) (i : ℕ) (equal : length kinds ≡ length va
     next_fit a = rw (drop_pairs kinds values i equal h) at a
 
     pub next_length : length (written_entries (drop i (pairs kinds values))) ≡
-        length (written_number (get_or kinds i 0)) + (length (written_number (get_or values i 0)) + length (written_entries (drop (i + 1) (pairs kinds values))))
+        length (written_number (get_or kinds i 0))
+        + (length (written_number (get_or values i 0)) + length (written_entries (drop (i + 1) (pairs kinds values))))
     unfolding written_entries
     next_length = rw (drop_pairs kinds values i equal h, length-append, length-append)
 

@@ -16,7 +16,8 @@ pub record Filling (s : List ℕ) (start : ℕ) (kinds₀ values₀ : List ℕ) 
   pub inside : at ≤ length s
   pub kinds_length : length kinds ≡ length kinds₀
   pub values_length : length values ≡ length values₀
-  pub kinds_left : sets kinds i (kinds_of (in_sequence (count - i) at (drop at s))) ≡ sets kinds₀ 0 (kinds_of (in_sequence (length kinds₀) start (drop start s)))
+  pub kinds_left : sets kinds i (kinds_of (in_sequence (count - i) at (drop at s))) ≡
+      sets kinds₀ 0 (kinds_of (in_sequence (length kinds₀) start (drop start s)))
   pub values_left : sets values i (values_of (in_sequence (count - i) at (drop at s))) ≡
       sets values₀ 0 (values_of (in_sequence (length kinds₀) start (drop start s)))
 

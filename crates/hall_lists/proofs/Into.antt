@@ -50,7 +50,8 @@ module _ (s kinds values : List ℕ) (r : HallSummary) (e : r ≡ hall_summary_o
       go (refused m place) q n f a = absurd (omega (arith, ap (λ (x : HallSummary). x.number) a))
 
   module _ (w : AcceptedPlan s r) where
-    into_other : lists_fit (length w.l) (length kinds) (length values) ≡ false → FillsLists s kinds values kinds values (refused_summary malformed_plan no_place)
+    into_other : lists_fit (length w.l) (length kinds) (length values) ≡ false
+        → FillsLists s kinds values kinds values (refused_summary malformed_plan no_place)
     unfolding lists_summary lists_kinds lists_values
     into_other f = record { answer = rw (w.is, f); kinds_held_lem = rw (w.is, f); values_held_lem = rw (w.is, f) }
 

@@ -53,7 +53,8 @@ module _ (c : ℕ) (s : List ℕ) where
       let k : next < length s = omega (arith, ap length e, length-drop next s) in
       rw (lt-ltb _ _ k)
 
-  end_answer_lem : (outer at : ℕ) (r : Read ℕ) → After s outer at r → end_answer outer (length s) (passed_over c (start_at at) r) ≡ hall_answer c (nothing_after outer r)
+  end_answer_lem : (outer at : ℕ) (r : Read ℕ) → After s outer at r
+      → end_answer outer (length s) (passed_over c (start_at at) r) ≡ hall_answer c (nothing_after outer r)
   end_answer_lem outer at (reached l next rest) a = end_reached outer at next l rest a.left
   end_answer_lem outer at (breach place) a = refl
 

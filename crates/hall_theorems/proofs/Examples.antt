@@ -14,8 +14,8 @@ use Rattle.hall_write.specs.Write.{halls_fill, hall_write_refusal, hall_written_
 use Rattle.hall_theorems.specs.Examples.{two_entries, eight_levels, nine_levels, HallExamples}
 
 pub hall_examples : HallExamples
-unfolding two_entries eight_levels nine_levels hall_summary_of hall_lookup_of lists_kinds lists_values halls_of byte_head entries_with inner_of destinations groups
-    hall_length_of hall_written_of hall_write_refusal halls_fill lists_allowed halls_allowed list_head pairs written_halls written_entries written_groups
+unfolding two_entries eight_levels nine_levels hall_summary_of hall_lookup_of lists_kinds lists_values halls_of byte_head entries_with inner_of destinations
+    groups hall_length_of hall_written_of hall_write_refusal halls_fill lists_allowed halls_allowed list_head pairs written_halls written_entries written_groups
 hall_examples =
     record {
       summary = refl;

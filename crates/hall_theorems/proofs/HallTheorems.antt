@@ -62,7 +62,8 @@ module _ (h : Hall) (s : List ℕ) (e : halls_of s ≡ halls (count h) (listed h
   values_read values n = rw (e, n, same)
 
   pub is_hall : IsHall h s
-  is_hall = record { summary = answered; every_chute = looked_up; lists_answer_lem = lists_answered; lists_kinds_lem = kinds_read; lists_values_lem = values_read }
+  is_hall =
+      record { summary = answered; every_chute = looked_up; lists_answer_lem = lists_answered; lists_kinds_lem = kinds_read; lists_values_lem = values_read }
 
 -- the hall that an accepted plan is
 abbrev TreePlan : HallPlan → Type 0

@@ -76,5 +76,6 @@ hall_allowed h w =
     let equal : length (kinds_of (listed h)) ≡ length (values_of (listed h)) =
     length-map (listed h) (λ (e : Entry). e.kind) ∙ sym (length-map (listed h) (λ (e : Entry). e.value)) in
     let all = passes levels_below 0 0 h [] (record { deep = w.eight_levels_lem; few = omega (arith, w.few_chutes); fits = w.fits }) in
-    let whole : entries_of list_head levels_below (count h) 0 0 (listed h) ≡ reached (listed h) (0 + length (listed h)) [] = rw (append-nil (listed h)) at all in
+    let whole : entries_of list_head levels_below (count h) 0 0 (listed h) ≡ reached (listed h) (0 + length (listed h)) [] =
+    rw (append-nil (listed h)) at all in
     rw (eq-eqb _ _ equal, le-leb _ _ w.outer_fits, pairs_back (listed h), whole)

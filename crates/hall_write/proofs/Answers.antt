@@ -43,8 +43,8 @@ module _ (outer : ℕ) (kinds values : List ℕ) where
     unfolding hall_length_of
     asked z = go (lists_allowed outer kinds values) (ltb max_plan (length Text)) refl refl e
       where
-        go : (a b : Bool) → lists_allowed outer kinds values ≡ a → ltb max_plan (length Text) ≡ b → p ≡ cond a (cond b too_long (length_is (length Text))) no_length
-            → Asked p.length
+        go : (a b : Bool) → lists_allowed outer kinds values ≡ a → ltb max_plan (length Text) ≡ b
+            → p ≡ cond a (cond b too_long (length_is (length Text))) no_length → Asked p.length
         go true false ea eb q =
             let n : p.length ≡ length Text = ap (λ (x : PlanLength). x.length) q in
             record { ok = ea; is = n; within = omega (arith, ltb-false max_plan (length Text) eb) }
@@ -58,7 +58,8 @@ module _ (outer : ℕ) (kinds values : List ℕ) where
         not_filled out short (go (lists_allowed outer kinds values) (ltb max_plan (length Text)) refl (λ q. n (ap (λ (x : PlanLength). x.number) e ∙ q)))
       where
         go : (a b : Bool) → ltb max_plan (length Text) ≡ b
-            → ((cond {A = PlanLength} a (cond b too_long (length_is (length Text))) no_length).number ≡ done → ⊥) → (a && eqb (length Text) (length out)) ≡ false
+            → ((cond {A = PlanLength} a (cond b too_long (length_is (length Text))) no_length).number ≡ done → ⊥)
+            → (a && eqb (length Text) (length out)) ≡ false
         go true true eb m = let d : length Text ≡ length out → ⊥ = λ q. omega (arith, ltb-true max_plan (length Text) eb) in ne_eqb _ _ d
         go true false eb m = absurd (m refl)
         go false b eb m = refl

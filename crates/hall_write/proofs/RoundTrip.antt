@@ -55,5 +55,6 @@ module _ (outer : ℕ) (kinds values : List ℕ) where
       go false true false et ea ef q = absurd (omega arith)
       go false false f et ea ef q = absurd (omega arith)
 
-  pub asked_accepted : (hall_length_of outer kinds values).number ≡ done → hall_write_refusal outer kinds values (hall_length_of outer kinds values).length ≡ done
+  pub asked_accepted : (hall_length_of outer kinds values).number ≡ done
+      → hall_write_refusal outer kinds values (hall_length_of outer kinds values).length ≡ done
   asked_accepted z = filled outer kinds values (hall_length_of outer kinds values).length (asked outer kinds values (hall_length_of outer kinds values) refl z)

@@ -12,7 +12,8 @@ use Rattle.hall_lists.specs.Lists.{lists_summary}
 use Rattle.place_theorems.specs.Examples.{PlaceExamples}
 
 pub place_examples : PlaceExamples
-unfolding summary_of lookup_of chute_row_of plan_by rows_by groups location_of hall_summary_of halls_of lists_summary byte_head entries_with inner_of destinations
+unfolding summary_of lookup_of chute_row_of plan_by rows_by groups location_of hall_summary_of halls_of lists_summary byte_head entries_with inner_of
+    destinations
 place_examples =
     record {
       no_bytes = refl;

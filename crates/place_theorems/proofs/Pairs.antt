@@ -116,7 +116,8 @@ pair_places s h chute =
           within = rw place (omega arith);
         }
       where
-        no : ((summary_of s).number ≡ input_too_long) ⊎ (((summary_of h).number ≡ input_too_long) ⊎ (((summary_of s).number ≡ done) × ((summary_of h).number ≡ done)))
+        no : ((summary_of s).number ≡ input_too_long)
+            ⊎ (((summary_of h).number ≡ input_too_long) ⊎ (((summary_of s).number ≡ done) × ((summary_of h).number ≡ done)))
             → ((summary_of s).number ≡ input_too_long → ⊥)
             × (((summary_of h).number ≡ input_too_long → ⊥) × (((summary_of s).number ≡ malformed_plan) ⊎ ((summary_of h).number ≡ malformed_plan))) → ⊥
         no (inl e) z = z.0 e

@@ -61,7 +61,8 @@ pub record Allowed (outer : ℕ) (kinds values : List ℕ) : Type 0 where
 pub lists_known : (outer : ℕ) (kinds values : List ℕ) → lists_allowed outer kinds values ≡ true → Allowed outer kinds values
 unfolding lists_allowed halls_allowed
 lists_known outer kinds values ok =
-    go (eqb (length kinds) (length values)) (leb outer max_number) (all_read (entries_of list_head levels_below outer 0 0 (pairs kinds values))) refl refl refl ok
+    go (eqb (length kinds) (length values)) (leb outer max_number) (all_read (entries_of list_head levels_below outer 0 0 (pairs kinds values)))
+    refl refl refl ok
   where
     go : (a b c : Bool) → eqb (length kinds) (length values) ≡ a → leb outer max_number ≡ b
         → all_read (entries_of list_head levels_below outer 0 0 (pairs kinds values)) ≡ c → (a && (b && c)) ≡ true → Allowed outer kinds values
