@@ -21,7 +21,6 @@ returns-then-number-ne-DONE c =
     = over_refused total max_message 5 (λ z. c.if-number-ne-DONE.true (c.over_total-number.ensures ∙ z)) in
     ap (λ (k : ℕ). session_answer k c.args.s) c.over_total-number.ensures ∙ rw (c.in-Taking.is, long)
 
-
 pub returns : goal.returns
 unfolding taking_in
 returns c =
