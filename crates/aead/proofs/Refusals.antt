@@ -1,12 +1,12 @@
--- The refusals by lengths: how the tests come to a number, and what the lengths are where there is none.
-use mathlib.Core.Path.{◌≡◌, refl, sym}
-use mathlib.Core.Bool.{Bool, true, false, not, ◌||◌}
-use Prim.Native.Nat.{ℕ, zero, suc, ◌+◌, ◌≤◌, ◌<◌}
+-- The refusals by lengths: what the lengths are where there is none.
+use mathlib.Core.Path.{◌≡◌, refl}
+use mathlib.Core.Bool.{Bool, true, false, cond, not, ◌||◌}
+use Prim.Native.Nat.{ℕ, ◌+◌, ◌≤◌}
 use native.Mathlib.Omega.{arith}
-use borrow.Author.Tests.{eqb-true, ltb-false, lt-ltb, le-ltb, eq-eqb, ne_eqb, not-false}
+use borrow.Author.Tests.{eqb-true, ltb-false, le-ltb, eq-eqb, not-false}
 use lib.Dec.{eqb, ltb}
 use Rattle.answers.specs.Laws.{test_passed}
-use Rattle.answers.specs.Numbers.{done, bad_key_length, string_too_long, input_too_long, bad_output_length, bad_tag_length}
+use Rattle.answers.specs.Numbers.{done}
 use Rattle.calls.specs.Limits.{max_customisation, max_message}
 use Rattle.aead.specs.Limits.{sealing_key_length, longest_tag}
 use Rattle.aead.specs.Refusals.{lengths_refusal, WithinLimits}
@@ -14,6 +14,10 @@ use Rattle.aead.specs.Refusals.{lengths_refusal, WithinLimits}
 neither : (a b : Bool) → (a || b) ≡ false → (a ≡ false) × (b ≡ false)
 neither true b e = (e, cc)
 neither false b e = (refl, e)
+
+number : (b : Bool) (k later : ℕ) → k ≤ 10 → later ≤ 10 → cond b k later ≤ 10
+number true k later h g = h
+number false k later h g = g
 
 module _ (least k i x l o t : ℕ) where
   pub lengths_accepted : lengths_refusal least k i x l o t ≡ done → WithinLimits least k i x l o t
@@ -33,41 +37,18 @@ module _ (least k i x l o t : ℕ) where
         long_tag = ltb-false longest_tag t tag.1;
       }
 
-  pub bad_key : (k ≡ sealing_key_length → ⊥) → bad_key_length ≡ lengths_refusal least k i x l o t
+  -- each number is one of the table
+  pub lengths_table : lengths_refusal least k i x l o t ≤ 10
   unfolding lengths_refusal
-  bad_key hk = simp (ne_eqb _ _ hk)
-
-  module _ (hk : k ≡ sealing_key_length) where
-    pub long_iv : max_customisation < i → string_too_long ≡ lengths_refusal least k i x l o t
-    unfolding lengths_refusal
-    long_iv hi = simp (eq-eqb _ _ hk, lt-ltb _ _ hi)
-
-    module _ (hi : i ≤ max_customisation) where
-      pub long_input : max_message < x + l → input_too_long ≡ lengths_refusal least k i x l o t
-      unfolding lengths_refusal
-      long_input hx = simp (eq-eqb _ _ hk, le-ltb _ _ hi, lt-ltb _ _ hx)
-
-      module _ (hx : x + l ≤ max_message) where
-        pub other_output : (o ≡ x → ⊥) → bad_output_length ≡ lengths_refusal least k i x l o t
-        unfolding lengths_refusal
-        other_output ho = simp (eq-eqb _ _ hk, le-ltb _ _ hi, le-ltb _ _ hx, ne_eqb _ _ ho)
-
-        module _ (ho : o ≡ x) where
-          pub short_tag : t < least → bad_tag_length ≡ lengths_refusal least k i x l o t
-          unfolding lengths_refusal
-          short_tag ht = simp (eq-eqb _ _ hk, le-ltb _ _ hi, le-ltb _ _ hx, eq-eqb _ _ ho, lt-ltb _ _ ht)
-
-          module _ (low : least ≤ t) where
-            pub long_tag_lem : longest_tag < t → bad_tag_length ≡ lengths_refusal least k i x l o t
-            unfolding lengths_refusal
-            long_tag_lem ht = simp (eq-eqb _ _ hk, le-ltb _ _ hi, le-ltb _ _ hx, eq-eqb _ _ ho, le-ltb _ _ low, lt-ltb _ _ ht)
-
-            pub none_refused : t ≤ longest_tag → done ≡ lengths_refusal least k i x l o t
-            unfolding lengths_refusal
-            none_refused ht = simp (eq-eqb _ _ hk, le-ltb _ _ hi, le-ltb _ _ hx, eq-eqb _ _ ho, le-ltb _ _ low, le-ltb _ _ ht)
+  lengths_table =
+      number (not (eqb k sealing_key_length)) 2 _ (omega arith)
+      (number (ltb max_customisation i) 3 _ (omega arith)
+      (number (ltb max_message (x + l)) 5 _ (omega arith)
+      (number (not (eqb o x)) 6 _ (omega arith) (number (ltb t least || ltb longest_tag t) 7 0 (omega arith) (omega arith)))))
 
 -- lengths within the limits are accepted, also with another least tag and another tag
 pub lengths_within : (least k i x l o t least' t' : ℕ) → WithinLimits least k i x l o t → least' ≤ t' → t' ≤ longest_tag
     → lengths_refusal least' k i x l o t' ≡ done
+unfolding lengths_refusal
 lengths_within least k i x l o t least' t' w low high =
-    sym (none_refused least' k i x l o t' w.key w.iv w.input w.output low high)
+    simp (eq-eqb _ _ w.key, le-ltb _ _ w.iv, le-ltb _ _ w.input, eq-eqb _ _ w.output, le-ltb _ _ low, le-ltb _ _ high)

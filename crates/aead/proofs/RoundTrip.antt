@@ -3,13 +3,13 @@
 use mathlib.Core.Path.{◌≡◌, refl, sym, ap, ◌∙◌}
 use mathlib.Core.Bool.{Bool, true, false, cond}
 use mathlib.Core.List.{List}
-use Prim.Native.Nat.{ℕ, zero, suc, ◌+◌, ◌≤◌}
+use Prim.Native.Nat.{ℕ, ◌+◌, ◌≤◌}
 use native.Mathlib.Omega.{arith}
 use lib.ListN.{length, take, drop, length-drop}
 use lib.Seq.{length-take-le}
 use Rattle.answers.specs.Laws.{first_number-passed}
 use Rattle.answers.specs.Numbers.{done, tag_mismatch}
-use Rattle.answers.specs.Done.{if_done, first_number, outcome_of}
+use Rattle.answers.specs.Done.{if_done, first_number}
 use Rattle.calls.specs.Start.{same_bytes}
 use Rattle.calls.specs.Laws.Refusal.{same_bytes-equal, same_bytes-self}
 use Rattle.byte_strings.specs.Combined.{combined}

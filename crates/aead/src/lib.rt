@@ -1,13 +1,12 @@
 // What seals made of a key stream and a tag have in common, whatever makes the two (docs/RULES.md, 'Sealing'): the refusals by lengths. The definitions and
 // the theorems over any key stream and any tag stand in specs/.
-#![tactic(auto)]
+#![tactic(auto, using(answers::proofs::Turns::asked_in_turn), unfolding(crate::specs::Refusals::lengths_refusal))]
 
 ghost use Rattle.std.specs.Prelude.{◌≡◌};
+ghost use Rattle.answers.specs.Done.{answered};
 ghost use Rattle.aead.specs.Refusals.{lengths_refusal};
 
-use answers::{
-    BAD_KEY_LENGTH, BAD_OUTPUT_LENGTH, BAD_TAG_LENGTH, DONE, INPUT_TOO_LONG, STRING_TOO_LONG,
-};
+use answers::{Refusal, over, over_total};
 use calls::{MAX_CUSTOMISATION, MAX_MESSAGE};
 
 // The lengths of specs/Limits.antt.
@@ -19,38 +18,33 @@ pub const LEAST_TAG: usize = 16;
 
 pub const LONGEST_TAG: usize = 64;
 
-// The number for a key, an IV, a text, a label, an output and a tag of these lengths, where a tag has `least` bytes or more; the smallest that applies.
-pub fn lengths_refusal(
-    least: usize,
-    key: usize,
-    iv: usize,
-    text: usize,
-    label: usize,
-    out: usize,
-    tag: usize,
-) -> u8
-    ensures { result ≡ lengths_refusal least key iv text label out tag }
-{
-    if key != SEALING_KEY_LENGTH {
-        return BAD_KEY_LENGTH;
+// The lengths of what sealing and opening are lent.
+#[derive(Clone, Copy)]
+pub struct Lengths {
+    pub key: usize,
+    pub iv: usize,
+    pub text: usize,
+    pub label: usize,
+    pub out: usize,
+    pub tag: usize,
+}
+
+impl Lengths {
+    // What they are refused for, where a tag has `least` bytes or more.
+    pub fn check(self, least: usize) -> Result<(), Refusal>
+        ensures { result ≡ answered (lengths_refusal least self.key self.iv self.text self.label self.out self.tag) tt }
+    {
+        if self.key != SEALING_KEY_LENGTH {
+            return Err(Refusal::BadKeyLength);
+        }
+        over(self.iv, MAX_CUSTOMISATION, Refusal::StringTooLong)?;
+        over_total(self.text, self.label, MAX_MESSAGE, Refusal::InputTooLong)?;
+        if self.out != self.text {
+            return Err(Refusal::BadOutputLength);
+        }
+        if self.tag < least || LONGEST_TAG < self.tag {
+            return Err(Refusal::BadTagLength);
+        }
+        Ok(())
     }
-    if MAX_CUSTOMISATION < iv {
-        return STRING_TOO_LONG;
-    }
-    if MAX_MESSAGE < text {
-        return INPUT_TOO_LONG;
-    }
-    if MAX_MESSAGE - text < label {
-        return INPUT_TOO_LONG;
-    }
-    if out != text {
-        return BAD_OUTPUT_LENGTH;
-    }
-    if tag < least {
-        return BAD_TAG_LENGTH;
-    }
-    if LONGEST_TAG < tag {
-        return BAD_TAG_LENGTH;
-    }
-    DONE
 }

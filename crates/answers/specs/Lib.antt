@@ -2,4 +2,5 @@
 pub mod Numbers
 pub mod Done
 pub mod Breaches
+pub mod Places
 pub mod Laws

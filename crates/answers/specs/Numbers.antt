@@ -1,5 +1,18 @@
 -- The numbers that a caller gets back (docs/RULES.md, 'Numbers'). The smallest that applies is given.
-use Rattle.std.specs.Prelude.{ℕ}
+use Rattle.std.specs.Prelude.{ℕ, cond, eqb}
+use Rattle.answers.specs.declared.Refusal.{Refusal}
+use Rattle.answers.specs.declared.Refusal.TheVariants.{
+  WrongState,
+  BadKeyLength,
+  StringTooLong,
+  ReservedName,
+  InputTooLong,
+  BadOutputLength,
+  BadTagLength,
+  TagMismatch,
+  MalformedPlan,
+  NoSuchChute,
+}
 
 abbrev pub done : ℕ
 done = 0
@@ -43,3 +56,29 @@ malformed_plan = 9
 -- the plan has no such chute
 abbrev pub no_such_chute : ℕ
 no_such_chute = 10
+
+-- the number of what a call is refused for
+abbrev pub number_of : Refusal → ℕ
+number_of WrongState = wrong_state
+number_of BadKeyLength = bad_key_length
+number_of StringTooLong = string_too_long
+number_of ReservedName = reserved_name
+number_of InputTooLong = input_too_long
+number_of BadOutputLength = bad_output_length
+number_of BadTagLength = bad_tag_length
+number_of TagMismatch = tag_mismatch
+number_of MalformedPlan = malformed_plan
+number_of NoSuchChute = no_such_chute
+
+-- and what a number of the table stands for; the last where it is none of the table
+abbrev pub refusal_of : ℕ → Refusal
+refusal_of k =
+    cond (eqb k wrong_state) WrongState
+    (cond (eqb k bad_key_length) BadKeyLength
+    (cond (eqb k string_too_long) StringTooLong
+    (cond (eqb k reserved_name) ReservedName
+    (cond (eqb k input_too_long) InputTooLong
+    (cond (eqb k bad_output_length) BadOutputLength
+    (cond (eqb k bad_tag_length) BadTagLength
+    (cond (eqb k tag_mismatch) TagMismatch
+    (cond (eqb k malformed_plan) MalformedPlan NoSuchChute))))))))

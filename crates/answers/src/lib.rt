@@ -1,42 +1,103 @@
-// What an entry answers with: a number of the refusal table (docs/RULES.md, 'Numbers'), and for the calls that are counted the permutations they took.
-// The numbers are those of specs/Numbers.antt. A call gives the smallest that applies.
+// What an entry answers with: a refusal of the table (docs/RULES.md, 'Numbers'), for the calls that are counted the permutations they took, and for those on
+// plans the place where the plan is malformed.
 #![tactic(auto)]
 
 ghost use Rattle.std.specs.Prelude.{◌≡◌, ◌+◌};
-ghost use Rattle.answers.specs.Done.{first_number, over};
+ghost use Rattle.answers.specs.Numbers.{number_of};
+ghost use Rattle.answers.specs.Places.{plan_refusal_number, plan_refusal_place};
+ghost use Rattle.answers.specs.Done.{answered, over, outcome_from};
+ghost use Rattle.answers.specs.declared.PlanRefusal.{PlanRefusal};
 
-// Done: nothing was refused.
+// The number of a call that is not refused.
 pub const DONE: u8 = 0;
 
-// A session that is giving is asked to take; a draw from a generator that was never seeded.
-pub const WRONG_STATE: u8 = 1;
+// What a call is refused for, in the table's order. Of those that apply a call gives the first.
+#[derive(Clone, Copy, Debug, PartialEq, Eq)]
+pub enum Refusal {
+    // A session that is giving is asked to take; a draw from a generator that was never seeded.
+    WrongState,
+    // A sealing key is not 32 bytes, or a KMAC key is too long.
+    BadKeyLength,
+    // A name, customisation, IV, additional input or personalisation is too long.
+    StringTooLong,
+    // cSHAKE256 is asked for with a name of the standard's own.
+    ReservedName,
+    // A message, text with label, seed or plan is too long.
+    InputTooLong,
+    // An output is too long, empty where it may not be, or not as long as its text; a session that could not start is asked for bytes.
+    BadOutputLength,
+    // A tag is too short or too long.
+    BadTagLength,
+    // The tag is not the one worked out afresh.
+    TagMismatch,
+    // A plan is malformed, or rows to be written break its rules or do not fill the buffer exactly.
+    MalformedPlan,
+    // The plan has no such chute.
+    NoSuchChute,
+}
 
-// A sealing key is not 32 bytes, or a KMAC key is too long.
-pub const BAD_KEY_LENGTH: u8 = 2;
+impl Refusal {
+    // Its number, as C has it.
+    pub fn number(self) -> u8
+        ensures { result ≡ number_of self }
+    {
+        match self {
+            Refusal::WrongState => 1,
+            Refusal::BadKeyLength => 2,
+            Refusal::StringTooLong => 3,
+            Refusal::ReservedName => 4,
+            Refusal::InputTooLong => 5,
+            Refusal::BadOutputLength => 6,
+            Refusal::BadTagLength => 7,
+            Refusal::TagMismatch => 8,
+            Refusal::MalformedPlan => 9,
+            Refusal::NoSuchChute => 10,
+        }
+    }
+}
 
-// A name, customisation, IV, additional input or personalisation is too long.
-pub const STRING_TOO_LONG: u8 = 3;
+// Why bytes are no plan, or no part of one: the place at which reading failed.
+#[derive(Clone, Copy, Debug, PartialEq, Eq)]
+pub struct Malformed {
+    pub place: usize,
+}
 
-// cSHAKE256 is asked for with a name of the standard's own.
-pub const RESERVED_NAME: u8 = 4;
+// What an answer on plans is refused for. Only a malformed plan has a place.
+#[derive(Clone, Copy, Debug, PartialEq, Eq)]
+pub enum PlanRefusal {
+    TooLong,
+    Malformed(Malformed),
+    NoSuchChute,
+}
 
-// A message, text with label, seed or plan is too long.
-pub const INPUT_TOO_LONG: u8 = 5;
+impl PlanRefusal {
+    pub fn number(self) -> u8
+        ensures { result ≡ plan_refusal_number self }
+    {
+        match self {
+            PlanRefusal::TooLong => Refusal::InputTooLong.number(),
+            PlanRefusal::Malformed(_) => Refusal::MalformedPlan.number(),
+            PlanRefusal::NoSuchChute => Refusal::NoSuchChute.number(),
+        }
+    }
 
-// An output is too long, empty where it may not be, or not as long as its text; a session that could not start is asked for bytes.
-pub const BAD_OUTPUT_LENGTH: u8 = 6;
+    pub fn place(self) -> usize
+        ensures { result ≡ plan_refusal_place self }
+    {
+        match self {
+            PlanRefusal::Malformed(malformed) => malformed.place,
+            PlanRefusal::TooLong | PlanRefusal::NoSuchChute => NO_PLACE,
+        }
+    }
+}
 
-// A tag is too short or too long.
-pub const BAD_TAG_LENGTH: u8 = 7;
+impl From<Malformed> for PlanRefusal {
+    ghost from_gives = { λ malformed refusal. refusal ≡ PlanRefusal.Malformed malformed };
 
-// The tag is not the one worked out afresh.
-pub const TAG_MISMATCH: u8 = 8;
-
-// A plan is malformed, or rows to be written break its rules or do not fill the buffer exactly.
-pub const MALFORMED_PLAN: u8 = 9;
-
-// The plan has no such chute.
-pub const NO_SUCH_CHUTE: u8 = 10;
+    fn from(malformed: Malformed) -> PlanRefusal {
+        PlanRefusal::Malformed(malformed)
+    }
+}
 
 // The place that an answer on plans tells where nothing that was read is malformed, as specs/Breaches.antt has it.
 pub const NO_PLACE: usize = 0;
@@ -49,35 +110,36 @@ pub struct Outcome {
     pub number: u8,
 }
 
-// The first of two numbers, unless it is 0. A refusal table is a chain of these, in its order.
-pub fn first_of(number: u8, later: u8) -> u8
-    ensures { result ≡ first_number number later }
-{
-    if number == DONE {
-        return later;
+impl From<Result<usize, Refusal>> for Outcome {
+    ghost from_gives = { λ answer outcome. outcome ≡ outcome_from answer };
+
+    fn from(answer: Result<usize, Refusal>) -> Outcome {
+        match answer {
+            Ok(runs) => Outcome { runs, number: DONE },
+            Err(refusal) => Outcome {
+                runs: 0,
+                number: refusal.number(),
+            },
+        }
     }
-    number
 }
 
-// The number for a total that more bytes would lead beyond the most that are allowed.
-pub fn over_total(total: usize, more: usize, most: usize, number: u8) -> u8
-    ensures { result ≡ over (total + more) most number }
+// Refuses a total that more bytes would lead beyond the most that are allowed.
+pub fn over_total(total: usize, more: usize, most: usize, refusal: Refusal) -> Result<(), Refusal>
+    ensures { result ≡ answered (over (total + more) most (number_of refusal)) tt }
 {
     if most < total {
-        return number;
+        return Err(refusal);
     }
-    if most - total < more {
-        return number;
-    }
-    DONE
+    over(more, most - total, refusal)
 }
 
-// The number for more bytes than the most that are allowed.
-pub fn over(bytes: usize, most: usize, number: u8) -> u8
-    ensures { result ≡ over bytes most number }
+// Refuses more bytes than the most that are allowed.
+pub fn over(bytes: usize, most: usize, refusal: Refusal) -> Result<(), Refusal>
+    ensures { result ≡ answered (over bytes most (number_of refusal)) tt }
 {
     if most < bytes {
-        return number;
+        return Err(refusal);
     }
-    DONE
+    Ok(())
 }

@@ -5,22 +5,19 @@ use Prim.Native.Nat.{ℕ, ◌+◌, ◌*◌, ◌≤◌, ◌<◌}
 use native.Mathlib.Omega.{arith}
 use lib.ListN.{length, take, drop}
 use lib.Seq.{drop-drop}
+use Rattle.fips202.specs.Fips202.{keccak_p}
 use Rattle.fips202.specs.Bytes.{xor_bytes}
 use Rattle.encode.specs.Padding.{rate, whole_blocks}
 use Rattle.encode.proofs.Laws.Lengths.{one_block_fewer, no_whole_block}
-use Rattle.in_place.specs.Rounds.{rounds_with, RoundConstants}
-use Rattle.in_place.specs.Laws.Turns.{permutation}
 use Rattle.blocks_in.specs.Blocks.{absorb}
 
 module _ (s : List ℕ) (at : ℕ) where
-  pub one_block : (ks a b : List ℕ) → RoundConstants ks → at + rate ≤ length s → b ≡ rounds_with 24 ks (xor_bytes a 0 (take rate (drop at s)))
+  pub one_block : (a b : List ℕ) → at + rate ≤ length s → b ≡ keccak_p (xor_bytes a 0 (take rate (drop at s)))
       → absorb (whole_blocks s (at + rate)) b (drop (at + rate) s) ≡ absorb (whole_blocks s at) a (drop at s)
   unfolding absorb
-  one_block ks a b hk h e =
+  one_block a b h e =
       let n : ℕ = whole_blocks s (at + rate) in
-      sym
-      (ap (λ (k : ℕ). absorb k a (drop at s)) (one_block_fewer s at h)
-      ∙ ap₂ (absorb n) (sym (permutation ks (xor_bytes a 0 (take rate (drop at s))) hk) ∙ sym e) (drop-drop rate at s))
+      sym (ap (λ (k : ℕ). absorb k a (drop at s)) (one_block_fewer s at h) ∙ ap₂ (absorb n) (sym e) (drop-drop rate at s))
 
   -- no block is left
   pub nothing_left : (a : List ℕ) → length s < at + rate → absorb (whole_blocks s at) a (drop at s) ≡ a

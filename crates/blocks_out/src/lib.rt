@@ -9,7 +9,7 @@ ghost use Rattle.encode.specs.Padding.{rate, whole_blocks};
 ghost use Rattle.blocks_out.specs.Blocks.{squeeze, permuted};
 
 use encode::RATE;
-use keccak_places::{all_lanes, evens, joined, odds};
+use keccak_places::{Columns, all_lanes};
 use keccak_rounds::{constants, rounds};
 use lanes_out::put_out;
 
@@ -19,22 +19,18 @@ pub fn squeeze_blocks(lanes: &mut [u64; 25], out: &mut [u8], from: usize) -> usi
         × (lanes.new ≡ permuted (whole_blocks out.old from) lanes.old)
         × (out.new ≡ sets out.old from (squeeze (whole_blocks out.old from) (keccak_p lanes.old))) }
 {
-    if out.len() < RATE {
-        return from;
-    }
-    if out.len() - RATE < from {
+    let blocks = out.len().saturating_sub(from) / RATE;
+    if blocks == 0 {
         return from;
     }
     let k = constants();
     all_lanes(*lanes);
-    let mut p = evens(*lanes);
-    let mut q = odds(*lanes);
-    let mut at = from;
-    while RATE <= out.len() - at {
-        rounds(&mut p, &mut q, &k);
-        let block = joined(p, q);
-        at += put_out(out, at, &block, 0);
+    let mut c = Columns::of(*lanes);
+    for i in 0..blocks {
+        rounds(&mut c, &k);
+        let at = from + RATE * i;
+        put_out(&mut out[at..at + RATE], 0, &c.joined(), 0);
     }
-    *lanes = joined(p, q);
-    at
+    *lanes = c.joined();
+    from + RATE * blocks
 }

@@ -15,15 +15,15 @@ use Rattle.byte_strings.specs.Combined.{combined}
 abbrev pub Left : List ℕ → List ℕ → ℕ → List ℕ → Type 0
 Left text out i all = take i out ++ combined (drop i text) (drop i out) ≡ all
 
-pub one_more : (text out all : List ℕ) (i : ℕ) → i < length text → i < length out → Left text out i all
-    → Left text (set out i (bit_xor (get_or text i 0) (get_or out i 0))) (i + 1) all
+pub one_more : (text out all : List ℕ) (i v : ℕ) → i < length text → i < length out → v ≡ bit_xor (get_or text i 0) (get_or out i 0)
+    → Left text out i all → Left text (set out i v) (i + 1) all
 unfolding combined
-one_more text out all i ht ho e =
-    let v : ℕ = bit_xor (get_or text i 0) (get_or out i 0) in
+one_more text out all i v ht ho is e =
     let n : i < suc i = omega arith in
     ap (λ (k : ℕ). take k (set out i v) ++ combined (drop k text) (drop k (set out i v))) (add-one i)
     ∙ ap₂ (λ (x y : List ℕ). x ++ combined (drop (suc i) text) y) (take-suc-set out i v ho) (drop-set-lt (suc i) out i v n)
     ∙ append_assoc (take i out) (v ∷ []) (combined (drop (suc i) text) (drop (suc i) out))
+    ∙ ap (λ (k : ℕ). take i out ++ (k ∷ combined (drop (suc i) text) (drop (suc i) out))) is
     ∙ sym (ap₂ (λ (x y : List ℕ). take i out ++ combined x y) (drop-cons text i 0 ht) (drop-cons out i 0 ho))
     ∙ e
 

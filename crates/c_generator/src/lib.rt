@@ -6,7 +6,8 @@ ghost use Rattle.std.specs.Prelude.{◌≡◌, length};
 ghost use Rattle.drng.specs.Drng.{seed_answer, draw_answer, draw_output};
 ghost use Rattle.c_generator_state.specs.Generator.{imported_generator, exported_answer};
 
-use c_generator_state::{CGenerator, CGeneratorAnswer, exported, imported};
+use c_generator_state::{CGenerator, CGeneratorAnswer};
+use drng::Generator;
 use seeding::Drng;
 
 pub fn seed(
@@ -17,9 +18,8 @@ pub fn seed(
 ) -> CGeneratorAnswer
     ensures { result ≡ exported_answer (seed_answer drng (imported_generator generator) seed.now personalisation.now) }
 {
-    let state = imported(generator);
-    let answer = generator::seed(drng, state, seed, personalisation);
-    exported(answer)
+    let state = Generator::from(generator);
+    CGeneratorAnswer::from(generator::seed(drng, state, seed, personalisation))
 }
 
 pub fn draw(
@@ -31,7 +31,6 @@ pub fn draw(
     ensures { (result ≡ exported_answer (draw_answer drng (imported_generator generator) additional.now (length out.old)))
         × (out.new ≡ draw_output drng (imported_generator generator) additional.now out.old) }
 {
-    let state = imported(generator);
-    let answer = generator::draw(drng, state, additional, out);
-    exported(answer)
+    let state = Generator::from(generator);
+    CGeneratorAnswer::from(generator::draw(drng, state, additional, out))
 }

@@ -1,4 +1,6 @@
 -- The generator's state as C sees it, and the answer to a seeding or a draw.
+use Rattle.answers.specs.Done.{outcome_from}
+use Rattle.answers.specs.declared.Outcome.{Outcome}
 use Rattle.drng.specs.declared.Generator.{Generator}
 use Rattle.drng.specs.declared.GeneratorAnswer.{GeneratorAnswer}
 use Rattle.c_flag.specs.Flag.{flag, is_set}
@@ -12,4 +14,6 @@ abbrev pub imported_generator : CGenerator → Generator
 imported_generator g = record { key = g.key; seeded = is_set g.seeded }
 
 abbrev pub exported_answer : GeneratorAnswer → CGeneratorAnswer
-exported_answer a = record { generator = exported_generator a.generator; runs = a.runs; number = a.number }
+exported_answer a =
+    let outcome : Outcome = outcome_from a.answer in
+    record { generator = exported_generator a.generator; runs = outcome.runs; number = outcome.number }

@@ -5,6 +5,7 @@ ghost use Rattle.std.specs.Prelude.{◌≡◌};
 ghost use Rattle.drng.specs.State.{fresh_generator};
 ghost use Rattle.c_generator_state.specs.Generator.{imported_generator, exported_generator, exported_answer};
 
+use answers::Outcome;
 use drng::{Generator, GeneratorAnswer, KEY_BYTES};
 
 #[repr(C)]
@@ -24,36 +25,45 @@ pub struct CGeneratorAnswer {
 }
 
 // The state that C lends.
-pub fn imported(g: CGenerator) -> Generator
-    ensures { result ≡ imported_generator g }
-{
-    let key = g.key;
-    let seeded = c_flag::is_set(g.seeded);
-    Generator { key, seeded }
-}
+impl From<CGenerator> for Generator {
+    ghost from_gives = { λ lent state. state ≡ imported_generator lent };
 
-fn exported_state(g: Generator) -> CGenerator
-    ensures { result ≡ exported_generator g }
-{
-    let key = g.key;
-    let seeded = c_flag::number_of(g.seeded);
-    CGenerator { key, seeded }
-}
-
-// What C is handed back.
-pub fn exported(answer: GeneratorAnswer) -> CGeneratorAnswer
-    ensures { result ≡ exported_answer answer }
-{
-    let generator = exported_state(answer.generator);
-    CGeneratorAnswer {
-        generator,
-        runs: answer.runs,
-        number: answer.number,
+    fn from(lent: CGenerator) -> Generator {
+        let key = lent.key;
+        let seeded = c_flag::is_set(lent.seeded);
+        Generator { key, seeded }
     }
 }
 
-pub fn fresh() -> CGenerator
-    ensures { result ≡ exported_generator fresh_generator }
-{
-    exported_state(drng::fresh())
+impl From<Generator> for CGenerator {
+    ghost from_gives = { λ state given. given ≡ exported_generator state };
+
+    fn from(state: Generator) -> CGenerator {
+        let key = state.key;
+        let seeded = c_flag::number_of(state.seeded);
+        CGenerator { key, seeded }
+    }
+}
+
+impl Default for CGenerator {
+    ghost is_default = { λ given. given ≡ exported_generator fresh_generator };
+
+    fn default() -> CGenerator {
+        CGenerator::from(Generator::default())
+    }
+}
+
+// What C is handed back.
+impl From<GeneratorAnswer> for CGeneratorAnswer {
+    ghost from_gives = { λ answer given. given ≡ exported_answer answer };
+
+    fn from(answer: GeneratorAnswer) -> CGeneratorAnswer {
+        let generator = CGenerator::from(answer.generator);
+        let Outcome { runs, number } = Outcome::from(answer.answer);
+        CGeneratorAnswer {
+            generator,
+            runs,
+            number,
+        }
+    }
 }

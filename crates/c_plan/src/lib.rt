@@ -4,13 +4,13 @@
 #![tactic(auto)]
 
 ghost use Rattle.std.specs.Prelude.{◌≡◌};
-ghost use Rattle.plan_pair.specs.Pair.{location_of};
+ghost use Rattle.plan_pair.specs.Pair.{location_from, location_of};
 ghost use Rattle.plan_walk.specs.Walk.{walk_step};
 ghost use Rattle.c_plan.specs.Row.{source_number, exported_location};
 ghost use Rattle.c_plan.specs.Walk.{exported_answer};
 
-use plan_pair::Source;
-use plan_walk::Cursor;
+use plan_pair::{PairRefusal, RowLocation, Source};
+use plan_walk::{Cursor, WalkAnswer};
 
 #[repr(C)]
 #[derive(Clone, Copy)]
@@ -24,32 +24,46 @@ pub struct CRow {
     pub number: u8,
 }
 
-fn source_number(source: Source) -> u8
+// The number of a plan, as C has it.
+fn source_number(source: Option<Source>) -> u8
     ensures { result ≡ source_number source }
 {
     match source {
-        Source::Neither => 0,
-        Source::Site => 1,
-        Source::House => 2,
+        None => 0,
+        Some(Source::Site) => 1,
+        Some(Source::House) => 2,
+    }
+}
+
+impl From<Result<RowLocation, PairRefusal>> for CRow {
+    ghost from_gives = { λ answer row. row ≡ exported_location (location_from answer) };
+
+    fn from(answer: Result<RowLocation, PairRefusal>) -> CRow {
+        match answer {
+            Ok(location) => CRow {
+                start: location.start,
+                length: location.length,
+                place: answers::NO_PLACE,
+                source: source_number(Some(location.source)),
+                malformed: source_number(None),
+                number: answers::DONE,
+            },
+            Err(refusal) => CRow {
+                start: 0,
+                length: 0,
+                place: refusal.place(),
+                source: source_number(None),
+                malformed: source_number(refusal.malformed()),
+                number: refusal.number(),
+            },
+        }
     }
 }
 
 pub fn row(site: &[u8], house: &[u8], chute: u64) -> CRow
     ensures { result ≡ exported_location (location_of site.now house.now chute) }
 {
-    let location = plan_pair::row_location(site, house, chute);
-    let from = location.source;
-    let source = source_number(from);
-    let which = location.malformed;
-    let malformed = source_number(which);
-    CRow {
-        start: location.start,
-        length: location.length,
-        place: location.place,
-        source,
-        malformed,
-        number: location.number,
-    }
+    CRow::from(plan_pair::row_location(site, house, chute))
 }
 
 #[repr(C)]
@@ -61,14 +75,21 @@ pub struct CWalk {
     pub number: u8,
 }
 
+impl From<WalkAnswer> for CWalk {
+    ghost from_gives = { λ answer walk. walk ≡ exported_answer answer };
+
+    fn from(answer: WalkAnswer) -> CWalk {
+        CWalk {
+            next: answer.next.at,
+            place: answer.place,
+            destination: answer.destination,
+            number: answer.number,
+        }
+    }
+}
+
 pub fn step(plan: &[u8], cursor: Cursor) -> CWalk
     ensures { result ≡ exported_answer (walk_step plan.now cursor) }
 {
-    let answer = plan_walk::step_at(plan, cursor);
-    CWalk {
-        next: answer.next.at,
-        place: answer.place,
-        destination: answer.destination,
-        number: answer.number,
-    }
+    CWalk::from(plan_walk::step_at(plan, cursor))
 }

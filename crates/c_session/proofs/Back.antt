@@ -2,7 +2,22 @@
 use mathlib.Core.Path.{◌≡◌, refl, ap}
 use mathlib.Core.List.{List, [], ◌∷◌, ◌++◌}
 use Prim.Native.Nat.{ℕ}
-use Rattle.answers.specs.Done.{if_done}
+use Rattle.std.specs.Prelude.{cond, Result, Ok, Err, is_ok}
+use Rattle.answers.specs.Numbers.{number_of}
+use Rattle.answers.specs.Done.{if_done, answer_number}
+use Rattle.answers.specs.declared.Refusal.{Refusal}
+use Rattle.answers.specs.declared.Refusal.TheVariants.{
+  WrongState,
+  BadKeyLength,
+  StringTooLong,
+  ReservedName,
+  InputTooLong,
+  BadOutputLength,
+  BadTagLength,
+  TagMismatch,
+  MalformedPlan,
+  NoSuchChute,
+}
 use Rattle.session_state.specs.declared.Phase.{Phase}
 use Rattle.session_state.specs.declared.Phase.TheVariants.{Taking, Giving}
 use Rattle.session_state.specs.declared.Session.{Session}
@@ -26,16 +41,33 @@ after_back s (c ∷ cs) = rw (session_back s) (after_back (called s c).session c
 pub numbers_back : (s : Session) (cs : List SessionCall) → c_numbers (exported_session s) cs ≡ numbers s cs
 unfolding c_numbers numbers
 numbers_back s [] = refl
-numbers_back s (c ∷ cs) = rw (session_back s) (ap (λ (l : List ℕ). (called s c).number ∷ l) (numbers_back (called s c).session cs))
+numbers_back s (c ∷ cs) = rw (session_back s) (ap (λ (l : List ℕ). answer_number (called s c).answer ∷ l) (numbers_back (called s c).session cs))
+
+-- a call is done exactly where C's number is 0
+done_back : (r : Result (Unit {0}) Refusal) (new old : List ℕ) → if_done (answer_number r) new old ≡ cond (is_ok r) new old
+done_back (Ok u) new old = refl
+done_back (Err e) new old = refused_back e
+  where
+    refused_back : (e : Refusal) → if_done (number_of e) new old ≡ old
+    refused_back WrongState = refl
+    refused_back BadKeyLength = refl
+    refused_back StringTooLong = refl
+    refused_back ReservedName = refl
+    refused_back InputTooLong = refl
+    refused_back BadOutputLength = refl
+    refused_back BadTagLength = refl
+    refused_back TagMismatch = refl
+    refused_back MalformedPlan = refl
+    refused_back NoSuchChute = refl
 
 pub pieces_back : (s : Session) (cs : List SessionCall) → c_pieces (exported_session s) cs ≡ accepted_pieces s cs
 unfolding c_pieces accepted_pieces
 pieces_back s [] = refl
 pieces_back s (c ∷ cs) =
-    rw (session_back s) (ap (λ (l : List ℕ). if_done (called s c).number (piece_of c) [] ++ l) (pieces_back (called s c).session cs))
+    rw (session_back s) (λ i. done_back (called s c).answer (piece_of c) [] i ++ pieces_back (called s c).session cs i)
 
 pub output_back : (s : Session) (cs : List SessionCall) → c_output (exported_session s) cs ≡ output s cs
 unfolding c_output output
 output_back s [] = refl
 output_back s (c ∷ cs) =
-    rw (session_back s) (ap (λ (l : List ℕ). if_done (called s c).number (given_by s c) [] ++ l) (output_back (called s c).session cs))
+    rw (session_back s) (λ i. done_back (called s c).answer (given_by s c) [] i ++ output_back (called s c).session cs i)

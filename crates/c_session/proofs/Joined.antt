@@ -1,5 +1,5 @@
 -- The joined_bytes rule of the crate `session`, carried over call by call (`Back`).
-use mathlib.Core.Path.{◌≡◌, ap, ◌∙◌}
+use mathlib.Core.Path.{ap, ◌∙◌}
 use mathlib.Core.List.{List, []}
 use Rattle.calls.specs.Start.{Start}
 use Rattle.session_state.specs.declared.Session.{Session}

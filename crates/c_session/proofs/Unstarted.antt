@@ -1,7 +1,5 @@
 -- What the crate `session` says of a session that could not start holds of the one that C has, which is that session, lent again (`Back`).
-use mathlib.Core.Path.{◌≡◌, ap, ◌∙◌}
-use Prim.Native.Nat.{ℕ}
-use mathlib.Core.List.{List}
+use mathlib.Core.Path.{ap, ◌∙◌}
 use Rattle.calls.specs.Start.{Start}
 use Rattle.session_state.specs.declared.Session.{Session}
 use Rattle.session_state.specs.Session.{begun, taking, giving, filled}

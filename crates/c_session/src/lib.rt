@@ -8,33 +8,29 @@ ghost use Rattle.session_state.specs.Session.{begun, taking, giving, filled};
 ghost use Rattle.c_session_state.specs.Session.{imported_session, exported_answer};
 
 pub use c_session_state::{CSession, CSessionAnswer};
-use c_session_state::{exported, imported};
+use session::Session;
 
 pub fn start_cshake256(name: &[u8], customisation: &[u8]) -> CSessionAnswer
     ensures { result ≡ exported_answer (begun (named name.now customisation.now)) }
 {
-    exported(session::start_cshake256(name, customisation))
+    CSessionAnswer::from(session::start_cshake256(name, customisation))
 }
 
 pub fn start_kmacxof256(key: &[u8], customisation: &[u8]) -> CSessionAnswer
     ensures { result ≡ exported_answer (begun (keyed key.now customisation.now)) }
 {
-    exported(session::start_kmacxof256(key, customisation))
+    CSessionAnswer::from(session::start_kmacxof256(key, customisation))
 }
 
 pub fn take(session: CSession, piece: &[u8]) -> CSessionAnswer
     ensures { result ≡ exported_answer (taking (imported_session session) piece.now) }
 {
-    let s = imported(session);
-    let answer = session::take(s, piece);
-    exported(answer)
+    CSessionAnswer::from(session::take(Session::from(session), piece))
 }
 
 pub fn give(session: CSession, out: &mut [u8]) -> CSessionAnswer
     ensures { (result ≡ exported_answer (giving (imported_session session) (length out.old)))
         × (out.new ≡ filled (imported_session session) out.old) }
 {
-    let s = imported(session);
-    let answer = session::give(s, out);
-    exported(answer)
+    CSessionAnswer::from(session::give(Session::from(session), out))
 }

@@ -1,5 +1,6 @@
 -- A session as C sees it: the phase is a number, 0 for taking and 1 for giving, with its position beside it. Read back, any number but 0 is giving.
 use Rattle.std.specs.Prelude.{ℕ, cond, eqb}
+use Rattle.answers.specs.Done.{answer_number}
 use Rattle.session_state.specs.declared.Phase.{Phase}
 use Rattle.session_state.specs.declared.Phase.TheVariants.{Taking, Giving}
 use Rattle.session_state.specs.declared.Session.{Session}
@@ -48,4 +49,4 @@ abbrev pub c_session_answer : ℕ → CSession → CSessionAnswer
 c_session_answer k s = record { session = s; number = k }
 
 abbrev pub exported_answer : SessionAnswer → CSessionAnswer
-exported_answer a = c_session_answer a.number (exported_session a.session)
+exported_answer a = c_session_answer (answer_number a.answer) (exported_session a.session)

@@ -2,8 +2,9 @@
 #![tactic(auto)]
 
 ghost use Rattle.std.specs.Prelude.{◌≡◌};
-ghost use Rattle.c_session_state.specs.Session.{imported_phase, imported_session, phase_number, phase_position, exported_answer};
+ghost use Rattle.c_session_state.specs.Session.{imported_session, exported_session, exported_answer};
 
+use answers::DONE;
 use session_state::{Phase, Session, SessionAnswer};
 
 #[repr(C)]
@@ -28,72 +29,62 @@ pub struct CSessionAnswer {
     pub number: u8,
 }
 
-fn imported_phase(number: u8, position: usize) -> Phase
-    ensures { result ≡ imported_phase number position }
-{
-    if number == 0 {
-        return Phase::Taking(position);
-    }
-    Phase::Giving(position)
-}
-
 // The session that C lends.
-pub fn imported(s: CSession) -> Session
-    ensures { result ≡ imported_session s }
-{
-    let lanes = s.lanes;
-    let phase = imported_phase(s.phase, s.position);
-    let kmac = c_flag::is_set(s.kmac);
-    Session {
-        lanes,
-        phase,
-        taken: s.taken,
-        given: s.given,
-        limit: s.limit,
-        suffix: s.suffix,
-        kmac,
+impl From<CSession> for Session {
+    ghost from_gives = { λ lent session. session ≡ imported_session lent };
+
+    fn from(lent: CSession) -> Session {
+        let lanes = lent.lanes;
+        let phase = if lent.phase == 0 {
+            Phase::Taking(lent.position)
+        } else {
+            Phase::Giving(lent.position)
+        };
+        Session {
+            lanes,
+            phase,
+            taken: lent.taken,
+            given: lent.given,
+            limit: lent.limit,
+            suffix: lent.suffix,
+            kmac: c_flag::is_set(lent.kmac),
+        }
     }
 }
 
-fn phase_number(phase: Phase) -> u8
-    ensures { result ≡ phase_number phase }
-{
-    match phase {
-        Phase::Taking(_) => 0,
-        Phase::Giving(_) => 1,
-    }
-}
+impl From<Session> for CSession {
+    ghost from_gives = { λ session handed. handed ≡ exported_session session };
 
-fn phase_position(phase: Phase) -> usize
-    ensures { result ≡ phase_position phase }
-{
-    match phase {
-        Phase::Taking(at) => at,
-        Phase::Giving(at) => at,
+    fn from(session: Session) -> CSession {
+        let lanes = session.lanes;
+        let (phase, position) = match session.phase {
+            Phase::Taking(position) => (0, position),
+            Phase::Giving(position) => (1, position),
+        };
+        CSession {
+            lanes,
+            taken: session.taken,
+            given: session.given,
+            limit: session.limit,
+            position,
+            phase,
+            suffix: session.suffix,
+            kmac: c_flag::number_of(session.kmac),
+        }
     }
 }
 
 // What C is handed back.
-pub fn exported(answer: SessionAnswer) -> CSessionAnswer
-    ensures { result ≡ exported_answer answer }
-{
-    let after = answer.session;
-    let lanes = after.lanes;
-    let phase = after.phase;
-    let position = phase_position(phase);
-    let number = phase_number(phase);
-    let kmac = c_flag::number_of(after.kmac);
-    CSessionAnswer {
-        session: CSession {
-            lanes,
-            taken: after.taken,
-            given: after.given,
-            limit: after.limit,
-            position,
-            phase: number,
-            suffix: after.suffix,
-            kmac,
-        },
-        number: answer.number,
+impl From<SessionAnswer> for CSessionAnswer {
+    ghost from_gives = { λ answer handed. handed ≡ exported_answer answer };
+
+    fn from(answer: SessionAnswer) -> CSessionAnswer {
+        CSessionAnswer {
+            session: CSession::from(answer.session),
+            number: match answer.answer {
+                Ok(()) => DONE,
+                Err(refusal) => refusal.number(),
+            },
+        }
     }
 }

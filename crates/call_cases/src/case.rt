@@ -47,7 +47,7 @@ pub fn length(case: &[u8], at: usize) -> usize {
     word(testing::rest(case, at), 4)
 }
 
-// The case after one of this size.
+// The case after one of this size, be it past the input's end, where a case is empty: so the places are counted, and no iterator over the input gives them.
 pub fn next(from: usize, size: usize) -> usize {
     from.wrapping_add(size)
 }
@@ -65,7 +65,7 @@ pub fn line(rt: &impl Print, letter: u8, text: &[u8], sum: u64) -> io::Result<u6
 
 // The checksum taken on by the number and the runs of an answer.
 pub fn numbered(sum: u64, number: u8, runs: usize) -> u64 {
-    testing::add_number(testing::add_number(sum, number as u64), runs as u64)
+    testing::add_number(testing::add_number(sum, u64::from(number)), runs as u64)
 }
 
 // Number, runs and bytes, on a line.

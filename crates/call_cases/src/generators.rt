@@ -1,6 +1,7 @@
 // The generators: f is a fresh one, s seeds the cSHAKE generator, d draws from it; number, runs and key are written, and of a draw the output. D writes a
 // checksum of the output. k, m and M do the same with the KMAC generator.
 use crate::case;
+use answers::Outcome;
 use drng::{Generator, GeneratorAnswer};
 use seeding::Drng;
 use std::io;
@@ -10,11 +11,10 @@ fn unwritten() -> [u8; 524288] {
 }
 
 pub fn run(rt: &impl Print, input: &[u8], from: usize, cases: usize) -> io::Result<()> {
-    let mut generator = drng::fresh();
+    let mut generator = Generator::default();
     let mut at = from;
     for _ in 0..cases {
-        let next = answered(rt, input, testing::rest(input, at), generator)?;
-        generator = next;
+        generator = answered(rt, input, testing::rest(input, at), generator)?;
         at = case::next(at, case::SHORT);
     }
     Ok(())
@@ -41,7 +41,7 @@ fn answered(
             case::line(rt, letter, first, 0)?;
             Ok(generator)
         }
-        b'f' => Ok(drng::fresh()),
+        b'f' => Ok(Generator::default()),
         b's' | b'k' => {
             let second = case::string(input, it, case::SECOND);
             printed(
@@ -57,9 +57,9 @@ fn answered(
 }
 
 fn printed(rt: &impl Print, answer: GeneratorAnswer) -> io::Result<Generator> {
+    let outcome = Outcome::from(answer.answer);
     let generator = answer.generator;
-    let key = generator.key;
-    case::print(rt, answer.number, answer.runs, &key)?;
+    case::print(rt, outcome.number, outcome.runs, &generator.key)?;
     Ok(generator)
 }
 

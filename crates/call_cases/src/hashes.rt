@@ -1,6 +1,6 @@
 // cSHAKE256, KMAC256 and KMACXOF256: the letters c, m and x take the answer into the checksum, C, M and X write it.
 use crate::case;
-use answers::Outcome;
+use answers::{Outcome, Refusal};
 use std::io;
 
 pub fn answered(rt: &impl Print, input: &[u8], it: &[u8], letter: u8, sum: u64) -> io::Result<u64> {
@@ -21,7 +21,7 @@ fn into(
     if buffer.len() < n {
         return Ok(sum);
     }
-    let outcome = call(input, it, letter, &mut buffer[..n]);
+    let outcome = Outcome::from(call(input, it, letter, &mut buffer[..n]));
     if letter < b'a' {
         case::print(rt, outcome.number, outcome.runs, testing::first(buffer, n))?;
         return Ok(sum);
@@ -30,7 +30,7 @@ fn into(
     Ok(testing::add_bytes(numbered, buffer))
 }
 
-fn call(input: &[u8], it: &[u8], letter: u8, out: &mut [u8]) -> Outcome {
+fn call(input: &[u8], it: &[u8], letter: u8, out: &mut [u8]) -> Result<usize, Refusal> {
     let named = case::string(input, it, case::FIRST);
     let customisation = case::string(input, it, case::SECOND);
     let message = case::string(input, it, case::THIRD);

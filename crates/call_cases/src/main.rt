@@ -31,6 +31,7 @@ fn main(rt: HostRuntime) -> io::Result<()> {
     of_generators(&rt, testing::first(&block, k))
 }
 
+// A line for each block, since each family's `run` keeps another state.
 fn without_state(rt: &impl Print, block: &[u8]) -> io::Result<()> {
     single::run(rt, block, case::FROM, case::word(block, 0))
 }

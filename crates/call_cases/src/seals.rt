@@ -1,6 +1,7 @@
 // Sealing and opening. l seals, and opens what its buffers then hold; o opens, its tag standing after the label, as many bytes as the second word says: both
 // take the answers into the checksum. O writes what o is answered. Strings: key, IV, text and label.
 use crate::case;
+use answers::Outcome;
 use std::io;
 
 pub fn answered(rt: &impl Print, input: &[u8], it: &[u8], letter: u8, sum: u64) -> io::Result<u64> {
@@ -37,13 +38,10 @@ pub fn answered(rt: &impl Print, input: &[u8], it: &[u8], letter: u8, sum: u64) 
 fn sealed_into(input: &[u8], it: &[u8], sum: u64, out: &mut [u8], tag: &mut [u8]) -> u64 {
     let n = case::output(it);
     let t = case::tag(it);
-    if out.len() < n {
+    if out.len() < n || tag.len() < t {
         return sum;
     }
-    if tag.len() < t {
-        return sum;
-    }
-    let outcome = seal::seal(
+    let sealed = seal::seal(
         case::string(input, it, case::FIRST),
         case::string(input, it, case::SECOND),
         case::string(input, it, case::THIRD),
@@ -51,6 +49,7 @@ fn sealed_into(input: &[u8], it: &[u8], sum: u64, out: &mut [u8], tag: &mut [u8]
         &mut out[..n],
         &mut tag[..t],
     );
+    let outcome = Outcome::from(sealed);
     testing::add_bytes(
         testing::add_bytes(case::numbered(sum, outcome.number, outcome.runs), out),
         tag,
@@ -72,7 +71,7 @@ fn opened_into(
     if out.len() < n {
         return Ok(sum);
     }
-    let outcome = open::open(
+    let opened = open::open(
         case::string(input, it, case::FIRST),
         case::string(input, it, case::SECOND),
         ciphertext,
@@ -80,6 +79,7 @@ fn opened_into(
         &mut out[..n],
         tag,
     );
+    let outcome = Outcome::from(opened);
     if letter == b'O' {
         case::print(rt, outcome.number, outcome.runs, testing::first(out, n))?;
         return Ok(sum);

@@ -1,5 +1,6 @@
 // Sessions: n and k start one of cSHAKE256 and of KMACXOF256, t takes a piece, g asks for output; all take the answer into the checksum. G writes it.
 use crate::case;
+use answers::{DONE, Refusal};
 use session::{Session, SessionAnswer};
 use std::io;
 
@@ -59,11 +60,18 @@ fn called(input: &[u8], it: &[u8], letter: u8, session: Session) -> SessionAnswe
     }
 }
 
+fn number_of(answer: Result<(), Refusal>) -> u8 {
+    match answer {
+        Ok(()) => DONE,
+        Err(refusal) => refusal.number(),
+    }
+}
+
 fn stepped(answer: SessionAnswer, sum: u64) -> Step {
     let session = answer.session;
     Step {
         session,
-        sum: testing::add_number(sum, answer.number as u64),
+        sum: testing::add_number(sum, u64::from(number_of(answer.answer))),
     }
 }
 
@@ -82,7 +90,7 @@ fn into(
     }
     let answer = session::give(session, &mut buffer[..n]);
     if letter == b'G' {
-        case::print(rt, answer.number, 0, testing::first(buffer, n))?;
+        case::print(rt, number_of(answer.answer), 0, testing::first(buffer, n))?;
     }
     Ok(stepped(answer, testing::add_bytes(sum, testing::first(buffer, n))))
 }

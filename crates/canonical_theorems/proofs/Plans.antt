@@ -30,7 +30,6 @@ use Rattle.plan_read.specs.Plan.{
   plan_in,
   plan_by,
   plan_of,
-  plan_answer,
   row_destinations,
 }
 use Rattle.plan_read.specs.declared.Row.{Row}
@@ -147,7 +146,7 @@ pub accepted_rows : (s : List ℕ) → (summary_of s).number ≡ done → RowsOf
 unfolding summary_of
 accepted_rows s z = go (plan_of s) refl (plan_numbered s) z
   where
-    go : (p : Plan) → plan_of s ≡ p → Numbered p → (summary (plan_answer 0 p)).number ≡ done → RowsOf s
+    go : (p : Plan) → plan_of s ≡ p → Numbered p → (summary p).number ≡ done → RowsOf s
     go (rows l) e u q = record { all = l; is = e }
     go (refused n place) e u q = absurd (omega arith)
 

@@ -1,5 +1,6 @@
 -- From the tests on the way and the bytes at the end to what a seeding and a draw answer, of either generator.
 use mathlib.Core.Path.{◌≡◌, refl, sym, ap, ◌∙◌}
+use Rattle.std.specs.Prelude.{Err}
 use mathlib.Core.Bool.{Bool, true, false}
 use mathlib.Core.List.{List}
 use Prim.Native.Nat.{ℕ, zero, suc, ◌≤◌}
@@ -8,7 +9,8 @@ use borrow.Author.Tests.{ltb-false}
 use lib.Dec.{ltb}
 use lib.ListN.{length}
 use Rattle.answers.specs.Laws.{test_passed}
-use Rattle.answers.specs.Done.{if_done}
+use Rattle.answers.specs.declared.Refusal.{Refusal}
+use Rattle.answers.specs.Done.{if_done, answered}
 use Rattle.calls.specs.Limits.{max_additional, max_output}
 use Rattle.calls.specs.Count.{runs}
 use Rattle.seeding.specs.declared.Drng.{Drng}
@@ -20,14 +22,14 @@ use Rattle.drng.specs.State.{refused, accepted, answer_with}
 use Rattle.drng.specs.Calls.{new_key, generate}
 use Rattle.drng.specs.Drng.{draw_refusal, seeding, draw_runs, seed_answer, draw_answer, draw_output}
 
--- a number other than 0: no runs, and the state as it was
-refused_with : (k n : ℕ) (key : List ℕ) (before : Generator) → (k ≡ 0 → ⊥) → refused k before ≡ answer_with k n key before
-refused_with zero n key before some = absurd (some refl)
-refused_with (suc k) n key before some = refl
+-- what is refused: the state as it was, and nothing written
+refused_with : (k n : ℕ) (key : List ℕ) (before : Generator) (e : Refusal) → answered k (tt {0}) ≡ Err e → refused e before ≡ answer_with k n key before
+refused_with zero n key before e h = absurd cc
+refused_with (suc k) n key before e h = cc
 
-unwritten : (k : ℕ) (answer before : List ℕ) → (k ≡ 0 → ⊥) → before ≡ if_done k answer before
-unwritten zero answer before some = absurd (some refl)
-unwritten (suc k) answer before some = refl
+unwritten : (k : ℕ) (answer before : List ℕ) (e : Refusal) → answered k (tt {0}) ≡ Err e → before ≡ if_done k answer before
+unwritten zero answer before e h = absurd cc
+unwritten (suc k) answer before e h = refl
 
 module _ (d : Drng) (g : Generator) where
   -- ---- seedings
@@ -36,10 +38,9 @@ module _ (d : Drng) (g : Generator) where
     abbrev s : Seeding
     s = seeding g.key x p
 
-    pub seed_refused : (k : ℕ) → k ≡ seed_refusal s → (k ≡ 0 → ⊥) → refused k g ≡ seed_answer d g x p
+    pub seed_refused : (e : Refusal) → answered (seed_refusal s) (tt {0}) ≡ Err e → refused e g ≡ seed_answer d g x p
     unfolding seed_answer
-    seed_refused k e some =
-        refused_with k (runs (seed_call d s)) (new_key d s) g some ∙ ap (λ (j : ℕ). answer_with j (runs (seed_call d s)) (new_key d s) g) e
+    seed_refused = refused_with (seed_refusal s) (runs (seed_call d s)) (new_key d s) g
 
     pub seed_accepted : (r : ℕ) (key : List ℕ) → seed_refusal s ≡ 0 → r ≡ runs (seed_call d s) → key ≡ new_key d s → accepted r key ≡ seed_answer d g x p
     unfolding seed_answer
@@ -60,14 +61,12 @@ module _ (d : Drng) (g : Generator) where
       pub answer : r ≡ draw_answer d g a (length before)
       pub output : out ≡ draw_output d g a before
 
-    pub draw_refused : (k : ℕ) → k ≡ number → (k ≡ 0 → ⊥) → Draws (refused k g) before
+    pub draw_refused : (e : Refusal) → answered number (tt {0}) ≡ Err e → Draws (refused e g) before
     unfolding draw_answer draw_output
-    draw_refused k e some =
+    draw_refused e h =
         record {
-          answer =
-              refused_with k (draw_runs d a (length before) g.key) all.key g some
-              ∙ ap (λ (j : ℕ). answer_with j (draw_runs d a (length before) g.key) all.key g) e;
-          output = unwritten k all.stream before some ∙ ap (λ (j : ℕ). if_done j all.stream before) e;
+          answer = refused_with number (draw_runs d a (length before) g.key) all.key g e h;
+          output = unwritten number all.stream before e h;
         }
 
     pub draw_accepted : (r : ℕ) (key out : List ℕ) → number ≡ 0 → r ≡ draw_runs d a (length before) g.key → key ≡ all.key → out ≡ all.stream

@@ -1,5 +1,6 @@
 -- A piece's count follows from the lengths of its call's arguments; the key that follows is as long as the one before, so each piece counts alike.
-use mathlib.Core.Path.{◌≡◌, ◌∙◌}
+use mathlib.Core.Path.{◌≡◌, ap, ◌∙◌}
+use Rattle.std.specs.Prelude.{Ok}
 use mathlib.Core.List.{List}
 use Prim.Native.Nat.{ℕ, ◌+◌, ◌*◌, ◌/◌, ◌≤◌}
 use native.Mathlib.Omega.{arith}
@@ -62,5 +63,5 @@ unfolding draw_answer
 draw_counts =
     record {
       piece = piece_runs_lem;
-      draw = λ d g additional n size ok. rw ok (draw_runs_lem d additional g.key n (draw_limits g.seeded (length additional) n ok).0 size);
+      draw = λ d g additional n size ok. rw ok (ap Ok (draw_runs_lem d additional g.key n (draw_limits g.seeded (length additional) n ok).0 size));
     }

@@ -1,5 +1,5 @@
 -- What a draw counts, from the count of the calls that it is made of (docs/RULES.md, 'Generators' and 'Count'). proofs/Counts.antt proves it.
-use Rattle.std.specs.Prelude.{◌≡◌, List, ℕ, ◌*◌, ◌≤◌, length}
+use Rattle.std.specs.Prelude.{◌≡◌, List, ℕ, ◌*◌, ◌≤◌, length, Ok}
 use Rattle.answers.specs.Numbers.{done}
 use Rattle.calls.specs.Limits.{max_additional}
 use Rattle.calls.specs.Count.{runs}
@@ -23,4 +23,4 @@ pub record DrawCounts : Type 0 where
       → runs (piece_call d additional key) ≡ piece_runs d
   -- so an accepted draw reports it once for each piece
   pub draw : (d : Drng) (g : Generator) (additional : List ℕ) (n : ℕ) → length g.key ≡ key_bytes
-      → draw_refusal g.seeded (length additional) n ≡ done → (draw_answer d g additional n).runs ≡ piece_runs d * piece_count n
+      → draw_refusal g.seeded (length additional) n ≡ done → (draw_answer d g additional n).answer ≡ Ok (piece_runs d * piece_count n)

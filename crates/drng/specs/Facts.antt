@@ -1,5 +1,6 @@
 -- The edges of a seeding and of a draw (docs/RULES.md, 'Numbers' and 'Facts'), and all that a piece is fed. proofs/Facts.antt proves them.
-use Rattle.std.specs.Prelude.{◌≡◌, true, false, List, [], ◌∷◌, ◌++◌, ℕ, ◌+◌, ◌≤◌, length, replicate}
+use Rattle.std.specs.Prelude.{◌≡◌, true, false, List, [], ◌∷◌, ◌++◌, ℕ, ◌+◌, ◌≤◌, length, replicate, Ok, Err}
+use Rattle.answers.specs.declared.Refusal.TheVariants.{StringTooLong}
 use Rattle.calls.specs.Limits.{max_additional}
 use Rattle.calls.specs.Call.{fed}
 use Rattle.sponge.specs.Sponge.{sponge}
@@ -18,7 +19,7 @@ DrawTakes d n r = (additional key : List ℕ) → length additional ≤ max_addi
 
 -- the first seeding, with a seed of n bytes and nothing more, takes r runs
 abbrev pub SeedTakes : Drng → (n r : ℕ) → Type 0
-SeedTakes d n r = (seed_answer d fresh_generator (replicate n 0) []).runs ≡ r
+SeedTakes d n r = (seed_answer d fresh_generator (replicate n 0) []).answer ≡ Ok r
 
 pub record GeneratorFacts : Type 0 where
   pub unseeded : draw_refusal false 0 0 ≡ 1
@@ -38,7 +39,7 @@ pub record GeneratorFacts : Type 0 where
   pub kmac_seed132 : SeedTakes Kmac 132 3
   pub kmac_seed133 : SeedTakes Kmac 133 4
   -- a refused seeding counts nothing
-  pub no_seed : (d : Drng) → (seed_answer d fresh_generator [] (replicate 85 0)).runs ≡ 0
+  pub no_seed : (d : Drng) → (seed_answer d fresh_generator [] (replicate 85 0)).answer ≡ Err StringTooLong
   -- a piece without additional input, from the first key. Of cSHAKE256 the name, after its length in bits, and the key; then the length of no bytes
   pub cshake_piece : fed (piece_call Cshake [] (replicate key_bytes 0))
       ≡ (0x01 ∷ 0x88 ∷ [])

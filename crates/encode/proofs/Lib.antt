@@ -1,6 +1,5 @@
 -- The facts, and lemmas on the bytes that the functions write.
 pub mod Facts
-mod Stored
-mod Filled
+mod BigEndian
 mod Codes
 pub mod Laws

@@ -9,12 +9,13 @@ ghost use Rattle.drng.specs.Calls.{generate};
 ghost use Rattle.drng.specs.Drng.{seed_answer, draw_answer, draw_output};
 ghost use Rattle.drng.specs.Counts.{piece_runs};
 
-use answers::DONE;
-use drng::{Generator, GeneratorAnswer, KEY_BYTES, accept, draw_refusal, refuse};
+use drng::{Generator, GeneratorAnswer, KEY_BYTES, check_draw};
 use generator_calls::{new_key, piece};
-use seeding::{Drng, seed_refusal};
+use pieces::{PIECE_BYTES, cut, piece_count};
+use seeding::{Drng, check_seeding};
 
 // A new key made of the old one, the seed and the personalisation.
+#[tactic(auto, using(drng::proofs::Answers::seed_refused, crate::proofs::Done::seed_done))]
 pub fn seed(
     drng: Drng,
     generator: Generator,
@@ -23,14 +24,13 @@ pub fn seed(
 ) -> GeneratorAnswer
     ensures { result ≡ seed_answer drng generator seed.now personalisation.now }
 {
-    let number = seed_refusal(seed.len(), personalisation.len());
-    if number != DONE {
-        return refuse(number, generator);
+    match check_seeding(seed.len(), personalisation.len()) {
+        Err(refusal) => GeneratorAnswer::refused(refusal, generator),
+        Ok(()) => {
+            let made = new_key(drng, generator.key, seed, personalisation);
+            GeneratorAnswer::accepted(made.runs, made.key)
+        }
     }
-    let old = generator.key;
-    let made = new_key(drng, old, seed, personalisation);
-    let key = made.key;
-    accept(made.runs, key)
 }
 
 // `out` filled piece by piece (1.1.5 and 1.2.5); the key after the last piece.
@@ -46,17 +46,17 @@ fn draw_pieces(
 {
     let n = out.len();
     let mut key = old;
-    let mut i = 0;
-    while i < n {
-        let end = i + pieces::cut(n - i);
-        let next = piece(drng, key, additional, &mut out[i..end]);
+    // By their places, since of what is written through chunks_mut() a proof knows only the length.
+    for made in 0..piece_count(n) {
+        let start = made * PIECE_BYTES;
+        let end = start + cut(n - start);
+        let next = piece(drng, key, additional, &mut out[start..end]);
         key = next;
-        i = end;
     }
     key
 }
 
-// The permutations of a piece.
+// The permutations of a piece: numbers that are proved of each generator, and no conversion.
 fn piece_runs(drng: Drng) -> usize
     ensures { result ≡ piece_runs drng }
 {
@@ -67,16 +67,17 @@ fn piece_runs(drng: Drng) -> usize
 }
 
 // `out` filled from the stream; the key moves on with each piece.
+#[tactic(auto, using(crate::proofs::Done::draw_refused, crate::proofs::Done::draw_within, crate::proofs::Done::counts_fit, crate::proofs::Done::draw_done))]
 pub fn draw(drng: Drng, generator: Generator, additional: &[u8], out: &mut [u8]) -> GeneratorAnswer
     ensures { (result ≡ draw_answer drng generator additional.now (length out.old))
         × (out.new ≡ draw_output drng generator additional.now out.old) }
 {
     let n = out.len();
-    let number = draw_refusal(generator.seeded, additional.len(), n);
-    if number != DONE {
-        return refuse(number, generator);
+    match check_draw(generator.seeded, additional.len(), n) {
+        Err(refusal) => GeneratorAnswer::refused(refusal, generator),
+        Ok(()) => {
+            let last = draw_pieces(drng, generator.key, additional, out);
+            GeneratorAnswer::accepted(piece_runs(drng) * piece_count(n), last)
+        }
     }
-    let old = generator.key;
-    let last = draw_pieces(drng, old, additional, out);
-    accept(piece_runs(drng) * pieces::piece_count(n), last)
 }

@@ -8,7 +8,7 @@ ghost use Rattle.generator_calls.specs.GeneratorCalls.{KeyMade, PieceMade};
 use drng::KEY_BYTES;
 use generator_input::{absorb_input, call_start};
 use seeding::Drng;
-use sponge::squeeze;
+use start::NO_START;
 
 // A key made by a seeding, and the seeding's permutations.
 #[derive(Clone, Copy)]
@@ -21,11 +21,11 @@ pub struct NewKey {
 pub fn new_key(drng: Drng, old: [u8; KEY_BYTES], seed: &[u8], personalisation: &[u8]) -> NewKey
     ensures { KeyMade drng old seed.now personalisation.now result }
 {
-    let start = call_start(drng, b"cSHAKE-DRNG seed", b"KMAC-DRNG seed", &old);
-    let mut lanes = start.lanes;
-    let blocks = absorb_input(drng, &mut lanes, start.suffix, seed, personalisation);
+    let start = call_start(drng, b"cSHAKE-DRNG seed", b"KMAC-DRNG seed", &old).unwrap_or(NO_START);
+    let mut sponge = start.sponge();
+    let blocks = absorb_input(drng, &mut sponge, start.suffix, seed, personalisation);
     let mut key = [0u8; KEY_BYTES];
-    squeeze(&mut lanes, 0, &mut key);
+    sponge.squeeze(&mut key);
     NewKey {
         key,
         runs: start.blocks + blocks,
@@ -36,11 +36,13 @@ pub fn new_key(drng: Drng, old: [u8; KEY_BYTES], seed: &[u8], personalisation: &
 pub fn piece(drng: Drng, old: [u8; KEY_BYTES], additional: &[u8], out: &mut [u8]) -> [u8; KEY_BYTES]
     ensures { PieceMade drng old additional.now (length out.old) result out.new }
 {
-    let start = call_start(drng, b"cSHAKE-DRNG generate", b"KMAC-DRNG generate", &old);
-    let mut lanes = start.lanes;
-    absorb_input(drng, &mut lanes, start.suffix, b"", additional);
+    let start = call_start(drng, b"cSHAKE-DRNG generate", b"KMAC-DRNG generate", &old).unwrap_or(
+        NO_START,
+    );
+    let mut sponge = start.sponge();
+    absorb_input(drng, &mut sponge, start.suffix, b"", additional);
     let mut next_key = [0u8; KEY_BYTES];
-    let position = squeeze(&mut lanes, 0, &mut next_key);
-    squeeze(&mut lanes, position, out);
+    sponge.squeeze(&mut next_key);
+    sponge.squeeze(out);
     next_key
 }

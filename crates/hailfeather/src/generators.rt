@@ -12,7 +12,7 @@ use seeding::Drng;
 pub extern "C" fn hf_generator_fresh() -> CGenerator
     ensures { result ≡ exported_generator fresh_generator }
 {
-    c_generator_state::fresh()
+    CGenerator::default()
 }
 
 #[unsafe(no_mangle)]
@@ -42,7 +42,7 @@ pub extern "C" fn hf_generator_draw(
 pub extern "C" fn hf_kmac_generator_fresh() -> CGenerator
     ensures { result ≡ exported_generator fresh_generator }
 {
-    c_generator_state::fresh()
+    CGenerator::default()
 }
 
 #[unsafe(no_mangle)]

@@ -13,14 +13,14 @@ use plan_length::{PlanLength, PlanWritten};
 pub extern "C" fn hf_hall_read(plan: &[u8]) -> HallSummary
     ensures { result ≡ hall_summary_of plan.now }
 {
-    hall::read_halls(plan)
+    HallSummary::from(hall::read_halls(plan))
 }
 
 #[unsafe(no_mangle)]
 pub extern "C" fn hf_hall_destination(plan: &[u8], chute: u64) -> Lookup
     ensures { result ≡ hall_lookup_of plan.now chute }
 {
-    hall::destination(plan, chute)
+    Lookup::from(hall::destination(plan, chute))
 }
 
 #[unsafe(no_mangle)]
@@ -31,14 +31,14 @@ pub extern "C" fn hf_hall_read_into(
 ) -> HallSummary
     ensures { FillsLists plan.now kinds.old values.old kinds.new values.new result }
 {
-    hall_lists::read_into(plan, kinds, values)
+    HallSummary::from(hall_lists::read_into(plan, kinds, values))
 }
 
 #[unsafe(no_mangle)]
 pub extern "C" fn hf_hall_length(outer: u64, kinds: &[u8], values: &[u32]) -> PlanLength
     ensures { result ≡ hall_length_of outer kinds.now values.now }
 {
-    hall_length::hall_length(outer, kinds, values)
+    PlanLength::from(hall_length::hall_length(outer, kinds, values))
 }
 
 #[unsafe(no_mangle)]
@@ -50,5 +50,5 @@ pub extern "C" fn hf_hall_write(
 ) -> PlanWritten
     ensures { WritesHalls outer kinds.now values.now out.old out.new result }
 {
-    hall_write::write_halls(outer, kinds, values, out)
+    PlanWritten::from(hall_write::write_halls(outer, kinds, values, out))
 }

@@ -25,7 +25,7 @@ pub extern "C" fn hf_cshake256(
         × (out.new
         ≡ written (cshake256 message.now (length out.old) name.now customisation.now) out.old) }
 {
-    hash::cshake256(name, customisation, message, out)
+    Outcome::from(hash::cshake256(name, customisation, message, out))
 }
 
 #[unsafe(no_mangle)]
@@ -39,7 +39,7 @@ pub extern "C" fn hf_kmac256(
         × (out.new
         ≡ written (kmac256 key.now message.now (length out.old) customisation.now) out.old) }
 {
-    hash::kmac256(key, customisation, message, out)
+    Outcome::from(hash::kmac256(key, customisation, message, out))
 }
 
 #[unsafe(no_mangle)]
@@ -53,5 +53,5 @@ pub extern "C" fn hf_kmacxof256(
         × (out.new
         ≡ written (kmacxof256 key.now message.now (length out.old) customisation.now) out.old) }
 {
-    hash::kmacxof256(key, customisation, message, out)
+    Outcome::from(hash::kmacxof256(key, customisation, message, out))
 }

@@ -1,5 +1,5 @@
 // The library as C links it: each function is one entry of the crates below, under a name `hf_..`, with that entry's contract. A `&[u8]` passes as a pointer
-// and a length. Nothing is done here but handing on.
+// and a length. Nothing is done here but handing on and, where C has a struct, making it of the answer.
 #![tactic(auto)]
 
 mod hashes; // hashes.rt: the permutation and the hash functions

@@ -18,14 +18,14 @@ use plan_walk::Cursor;
 pub extern "C" fn hf_plan_read(plan: &[u8]) -> PlanSummary
     ensures { result ≡ summary_of plan.now }
 {
-    plan::read_plan(plan)
+    PlanSummary::from(plan::read_plan(plan))
 }
 
 #[unsafe(no_mangle)]
 pub extern "C" fn hf_plan_destination(plan: &[u8], chute: u64) -> Lookup
     ensures { result ≡ lookup_of plan.now chute }
 {
-    plan::destination(plan, chute)
+    Lookup::from(plan::destination(plan, chute))
 }
 
 #[unsafe(no_mangle)]
@@ -39,14 +39,14 @@ pub extern "C" fn hf_plan_row(site: &[u8], house: &[u8], chute: u64) -> CRow
 pub extern "C" fn hf_plan_length(rows: &[u32]) -> PlanLength
     ensures { result ≡ length_of rows.now }
 {
-    plan_length::plan_length(rows)
+    PlanLength::from(plan_length::plan_length(rows))
 }
 
 #[unsafe(no_mangle)]
 pub extern "C" fn hf_plan_write(rows: &[u32], out: &mut [u8]) -> PlanWritten
     ensures { WritesPlan rows.now out.old out.new result }
 {
-    plan_write::write_plan(rows, out)
+    PlanWritten::from(plan_write::write_plan(rows, out))
 }
 
 #[unsafe(no_mangle)]
@@ -67,12 +67,12 @@ pub extern "C" fn hf_plan_step(plan: &[u8], walk: Cursor) -> CWalk
 pub extern "C" fn hf_plan_migrated_length(plan: &[u8]) -> PlanLength
     ensures { result ≡ migrated_length_of plan.now }
 {
-    plan_migration::migrated_length(plan)
+    PlanLength::from(plan_migration::migrated_length(plan))
 }
 
 #[unsafe(no_mangle)]
 pub extern "C" fn hf_plan_migrate(plan: &[u8], out: &mut [u8]) -> PlanWritten
     ensures { Migrates plan.now out.old out.new result }
 {
-    plan_migration::migrate(plan, out)
+    PlanWritten::from(plan_migration::migrate(plan, out))
 }

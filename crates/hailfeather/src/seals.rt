@@ -17,7 +17,7 @@ pub extern "C" fn hf_seal(
     ensures { Seals kmac_aead (seal_arguments key.now iv.now text.now label.now)
         out.old tag.old result out.new tag.new }
 {
-    seal::seal(key, iv, text, label, out, tag)
+    Outcome::from(seal::seal(key, iv, text, label, out, tag))
 }
 
 #[unsafe(no_mangle)]
@@ -32,5 +32,5 @@ pub extern "C" fn hf_open(
     ensures { OpensInto kmac_aead (seal_arguments key.now iv.now ciphertext.now label.now)
         out.old tag.now result out.new }
 {
-    open::open(key, iv, ciphertext, label, out, tag)
+    Outcome::from(open::open(key, iv, ciphertext, label, out, tag))
 }

@@ -2,14 +2,45 @@
 #![tactic(auto)]
 
 ghost use Rattle.std.specs.Prelude.{◌≡◌};
-ghost use Rattle.plan.specs.Answers.{no_destination};
-ghost use Rattle.hall.specs.Answers.{refused_summary, accepted_summary, hall_summary_of, hall_lookup_of};
+ghost use Rattle.plan.specs.Answers.{lookup_from};
+ghost use Rattle.hall.specs.Answers.{summary_from, hall_summary_of, hall_lookup_of};
 
-use hall_read::HallRead;
-use plan::Lookup;
+use answers::PlanRefusal;
 
-// The answer of reading a hall plan: 0, the outermost number of entries, and how many entries and chutes there are; or the refusal's number and, with 9, the
-// place at which the plan is malformed.
+// What a hall plan has: the outermost number of entries, and how many entries and chutes there are.
+#[derive(Clone, Copy, Debug, PartialEq, Eq)]
+pub struct HallCounts {
+    pub outer: u32,
+    pub entries: usize,
+    pub chutes: u32,
+}
+
+#[tactic(auto, using(crate::specs::Laws::summary_read, crate::specs::Laws::summary_refused))]
+pub fn read_halls(plan: &[u8]) -> Result<HallCounts, PlanRefusal>
+    ensures { summary_from result ≡ hall_summary_of plan.now }
+{
+    let read = hall_read::read_whole(plan, 0)?;
+    Ok(HallCounts {
+        outer: read.outer,
+        entries: read.entries,
+        chutes: read.chutes,
+    })
+}
+
+// The destination of a chute. The plan is read whole before the chute is judged.
+#[tactic(auto, using(crate::specs::Laws::lookup_found, crate::specs::Laws::lookup_missing, crate::specs::Laws::lookup_refused))]
+pub fn destination(plan: &[u8], chute: u64) -> Result<u32, PlanRefusal>
+    ensures { lookup_from result ≡ hall_lookup_of plan.now chute }
+{
+    let read = hall_read::read_whole(plan, chute)?;
+    if plan::has_chute(read.chutes, chute) {
+        return Ok(read.found);
+    }
+    Err(PlanRefusal::NoSuchChute)
+}
+
+// The answer of reading a hall plan, as C has it: 0, the outermost number of entries, and how many entries and chutes there are; or the refusal's number and,
+// with 9, the place at which the plan is malformed.
 #[repr(C)]
 #[derive(Clone, Copy)]
 pub struct HallSummary {
@@ -20,75 +51,25 @@ pub struct HallSummary {
     pub number: u8,
 }
 
-// The answer on a refusal, of reading into lists too.
-pub fn refused_summary(number: u8, place: usize) -> HallSummary
-    ensures { result ≡ refused_summary number place }
-{
-    HallSummary {
-        number,
-        outer: 0,
-        entries: 0,
-        chutes: 0,
-        place,
-    }
-}
+impl From<Result<HallCounts, PlanRefusal>> for HallSummary {
+    ghost from_gives = { λ answer summary. summary ≡ summary_from answer };
 
-fn accepted_summary(outer: u32, entries: usize, chutes: u32) -> HallSummary
-    ensures { result ≡ accepted_summary outer entries chutes }
-{
-    HallSummary {
-        number: answers::DONE,
-        outer,
-        entries,
-        chutes,
-        place: answers::NO_PLACE,
-    }
-}
-
-pub fn read_halls(plan: &[u8]) -> HallSummary
-    ensures { result ≡ hall_summary_of plan.now }
-{
-    match hall_read::read_whole(plan, 0) {
-        HallRead::Halls {
-            outer,
-            entries,
-            chutes,
-            found: _,
-        } => accepted_summary(outer, entries, chutes),
-        HallRead::Refused { number, place } => refused_summary(number, place),
-    }
-}
-
-fn no_destination(number: u8, place: usize) -> Lookup
-    ensures { result ≡ no_destination number place }
-{
-    Lookup {
-        number,
-        destination: 0,
-        place,
-    }
-}
-
-// The destination of a chute. The plan is read whole before the chute is judged.
-pub fn destination(plan: &[u8], chute: u64) -> Lookup
-    ensures { result ≡ hall_lookup_of plan.now chute }
-{
-    match hall_read::read_whole(plan, chute) {
-        HallRead::Halls {
-            outer: _,
-            entries: _,
-            chutes,
-            found,
-        } => {
-            if plan::has_chute(chutes, chute) {
-                return Lookup {
-                    number: answers::DONE,
-                    destination: found,
-                    place: answers::NO_PLACE,
-                };
-            }
-            no_destination(answers::NO_SUCH_CHUTE, answers::NO_PLACE)
+    fn from(answer: Result<HallCounts, PlanRefusal>) -> HallSummary {
+        match answer {
+            Ok(counts) => HallSummary {
+                number: answers::DONE,
+                outer: counts.outer,
+                entries: counts.entries,
+                chutes: counts.chutes,
+                place: answers::NO_PLACE, // the plan is well-formed
+            },
+            Err(refusal) => HallSummary {
+                number: refusal.number(),
+                outer: 0,
+                entries: 0,
+                chutes: 0,
+                place: refusal.place(),
+            },
         }
-        HallRead::Refused { number, place } => no_destination(number, place),
     }
 }

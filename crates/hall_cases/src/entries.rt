@@ -1,23 +1,25 @@
 // The hall entries, each asked for one case.
 use crate::{lists, show, written};
+use cases::Case;
+use plan::Lookup;
 use std::io;
 
+// The words where a case's number and its length stand.
+const NUMBER: u8 = 2;
+
+const LENGTH: u8 = 4;
+
 // What the case's letter asks for, and the checksum after it.
-pub fn asked(
-    rt: &impl Print,
-    letter: u8,
-    first: &[u8],
-    second: &[u8],
-    number: u64,
-    length: usize,
-    sum: u64,
-) -> io::Result<u64> {
-    match letter {
-        b's' => return Ok(summed(first, sum, number, length)),
+pub fn asked(rt: &impl Print, case: Case, sum: u64) -> io::Result<u64> {
+    let number = case.number(NUMBER);
+    let length = case.word(LENGTH) as usize;
+    // The letter stands in the input, so that a match tells what is asked; closures would be chosen by the same match.
+    match case.letter {
+        b's' => return Ok(summed(case.first, sum, number, length)),
         b'e' => show::field(rt, sum)?,
-        b'w' => written::written(rt, number, first, second, length)?,
-        b'l' => line(rt, first, length)?,
-        _ => printing::print(rt, first)?,
+        b'w' => written::written(rt, number, case.first, case.second, length)?,
+        b'l' => line(rt, case.first, length)?,
+        _ => printing::print(rt, case.first)?,
     }
     println!(rt)?;
     Ok(0)
@@ -36,7 +38,7 @@ fn summed(plan: &[u8], sum: u64, chute: u64, length: usize) -> u64 {
     let read = show::add_summary(sum, hall::read_halls(plan));
     let mut all = lists::read(read, plan, length, length);
     for i in (chute >> 32) << 32..chute {
-        let found = hall::destination(plan, i);
+        let found = Lookup::from(hall::destination(plan, i));
         all = show::add_answer(all, found.number, found.destination, found.place);
     }
     all

@@ -1,6 +1,7 @@
 // Plans read into lent lists of every length around the needed one.
 use crate::show;
-use hall::HallSummary;
+use answers::PlanRefusal;
+use hall::HallCounts;
 use std::io;
 
 // Lists with room for every plan, whose elements are nothing that a plan has.
@@ -23,7 +24,7 @@ fn value_at(values: &[u32], i: usize) -> u32 {
 fn add_values(sum: u64, values: &[u32], n: usize) -> u64 {
     let mut all = sum;
     for i in 0..n {
-        all = testing::add_number(all, value_at(values, i) as u64);
+        all = testing::add_number(all, u64::from(value_at(values, i)));
     }
     all
 }
@@ -35,7 +36,7 @@ pub fn read_into(
     values: &mut [u32],
     n: usize,
     m: usize,
-) -> HallSummary {
+) -> Result<HallCounts, PlanRefusal> {
     if n <= kinds.len() {
         if m <= values.len() {
             return hall_lists::read_into(plan, &mut kinds[..n], &mut values[..m]);

@@ -1,5 +1,6 @@
 // Plans written from lists into buffers of every length around the needed one.
 use crate::{lists, show};
+use plan_length::{PlanLength, PlanWritten};
 use std::io;
 
 // A buffer with room for a byte more than any plan may have, and two past that.
@@ -20,10 +21,11 @@ fn write_into(
     if buffer.len() < lent {
         return Ok(());
     }
-    let found = hall_write::write_halls(outer, kinds, values, &mut buffer[..lent]);
+    let written = hall_write::write_halls(outer, kinds, values, &mut buffer[..lent]);
+    let found = PlanWritten::from(written);
     let sum = testing::add_bytes(0, testing::first(buffer, lent.wrapping_add(2)));
     show::answer(rt, found.number, sum, found.place)?;
-    if found.number != 0 {
+    if written.is_err() {
         return Ok(());
     }
     let read = lists::read(0, testing::first(buffer, lent), kinds.len(), values.len());
@@ -54,18 +56,16 @@ fn write_each(
     otherwise: usize,
 ) -> io::Result<()> {
     let needed = hall_length::hall_length(outer, kinds, values);
-    show::answer(rt, needed.number, needed.length as u64, needed.place)?;
-    let length = if needed.number == 0 {
-        needed.length
-    } else {
-        otherwise
-    };
+    let found = PlanLength::from(needed);
+    show::answer(rt, found.number, found.length as u64, found.place)?;
+    let length = needed.unwrap_or(otherwise);
     for k in 0..6 {
         write(rt, outer, kinds, values, lent_length(length, k))?;
     }
     Ok(())
 }
 
+// As in plan_cases, where the rows are fewer: the check needs the length of the array beside it.
 fn fill(values: &mut [u32], bytes: &[u8]) {
     for (i, value) in values.iter_mut().enumerate() {
         *value = testing::word(testing::rest(bytes, (i % 33000) * 4));
@@ -93,9 +93,10 @@ pub fn written(
 pub fn again(rt: &impl Print, plan: &[u8], n: usize) -> io::Result<()> {
     let mut kinds = lists::kinds_room();
     let mut values = lists::values_room();
-    let found = lists::read_into(plan, &mut kinds, &mut values, n, n);
-    if found.number != 0 || n > 33000 {
-        return Ok(());
+    match lists::read_into(plan, &mut kinds, &mut values, n, n) {
+        Ok(found) if n <= 33000 => {
+            write_each(rt, u64::from(found.outer), &kinds[..n], &values[..n], 0)
+        }
+        _ => Ok(()),
     }
-    write_each(rt, found.outer as u64, &kinds[..n], &values[..n], 0)
 }

@@ -1,19 +1,12 @@
 -- Stores of entries one after another: those to come, made on what is stored so far, are the stores of all entries.
-use mathlib.Core.Path.{◌≡◌, sym, ap, ◌∙◌}
-use mathlib.Core.List.{List, [], ◌∷◌}
-use Prim.Native.Nat.{ℕ, zero, suc, ◌+◌, ◌-◌, ◌≤◌, ◌<◌}
-use native.Mathlib.Omega.{arith}
-use native.Mathlib.Numerals.{add-one}
-use lib.ListN.{length, drop, set, length-set}
-use lib.Seq.{sets}
+use Rattle.std.proofs.Common.{◌≡◌, sym, ap, ◌∙◌, List, [], ◌∷◌, ℕ, zero, suc, ◌+◌, ◌-◌, ◌≤◌, ◌<◌, arith, add-one, length, drop}
+use Rattle.std.proofs.Math.ListN.{set, length-set}
+use Rattle.std.proofs.Math.Seq.{sets}
 use Rattle.hall_entry.specs.Entries.{Entry, entry, kinds_of, values_of, first, wrong}
 use Rattle.hall_entry.specs.Bytes.{entry_head}
 use Rattle.hall_lists.specs.Sequence.{in_sequence, StoresEntries}
 
 pub record Filling (s : List ℕ) (start : ℕ) (kinds₀ values₀ : List ℕ) (count : ℕ) (kinds values : List ℕ) (at i : ℕ) : Type 0 where
-  pub within : i ≤ count
-  pub all : count ≡ length kinds₀
-  pub inside : at ≤ length s
   pub kinds_length : length kinds ≡ length kinds₀
   pub values_length : length values ≡ length values₀
   pub kinds_left : sets kinds i (kinds_of (in_sequence (count - i) at (drop at s))) ≡
@@ -40,15 +33,12 @@ sets_next l i x xs = rw add-one
 
 module _ {s : List ℕ} {start : ℕ} {kinds₀ values₀ : List ℕ} {count : ℕ} {kinds values : List ℕ} {at i : ℕ}
     (f : Filling s start kinds₀ values₀ count kinds values at i) where
-  pub filling_more : (k v next : ℕ) → i < count → entry_head at (drop at s) ≡ first k v next (drop next s) → next ≤ length s
+  pub filling_more : (k v next : ℕ) → i < count → entry_head at (drop at s) ≡ first k v next (drop next s)
       → Filling s start kinds₀ values₀ count (set kinds i k) (set values i v) next (i + 1)
-  filling_more k v next h e n =
+  filling_more k v next h e =
       let rest : List Entry = in_sequence (count - (i + 1)) next (drop next s) in
       let more : in_sequence (count - i) at (drop at s) ≡ entry k v ∷ rest = sequence_more s count i at k v next h e in
       record {
-        within = omega arith;
-        all = f.all;
-        inside = n;
         kinds_length = length-set kinds i k ∙ f.kinds_length;
         values_length = length-set values i v ∙ f.values_length;
         kinds_left = sets_next kinds i k (kinds_of rest) ∙ sym (ap (λ (x : List Entry). sets kinds i (kinds_of x)) more) ∙ f.kinds_left;

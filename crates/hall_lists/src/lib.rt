@@ -5,38 +5,41 @@ mod fill; // fill.rt: the stores, once the plan is known to be good and the list
 
 ghost use Rattle.std.specs.Prelude.{◌≡◌, drop};
 ghost use Rattle.plan_read.specs.Plan.{plan_number};
+ghost use Rattle.hall.specs.Answers.{summary_from};
 ghost use Rattle.hall_lists.specs.Lists.{FillsLists};
 ghost use Rattle.hall_lists.specs.Sequence.{entries_start};
 
-use hall::HallSummary;
-use leb128::Number;
+use answers::{Malformed, PlanRefusal};
+use hall::HallCounts;
+
+// What lists of another length than the plan has entries are refused for: the place is that of no breach, as the plan has none.
+const OTHER_LENGTH: PlanRefusal = PlanRefusal::Malformed(Malformed {
+    place: answers::NO_PLACE,
+});
 
 // Where the entries start: past the outermost number.
 fn entries_start(plan: &[u8]) -> usize
     ensures { result ≡ entries_start (plan_number 0 (drop 0 plan.now)) }
 {
-    match leb128::number_at(plan, 0) {
-        Number::Value { value: _, next } => next,
-        Number::Bad(_) => 0,
-    }
+    leb128::number_at(plan, 0).map_or(0, |outer| outer.next)
 }
 
 // Reads a hall plan into two lists of exactly as many elements as it has entries, and answers as for reading it. On a refusal, 9 for lists of another length
 // among them, nothing is written: so the plan is read whole before the first store.
-pub fn read_into(plan: &[u8], kinds: &mut [u8], values: &mut [u32]) -> HallSummary
-    ensures { FillsLists plan.now kinds.old values.old kinds.new values.new result }
+pub fn read_into(
+    plan: &[u8],
+    kinds: &mut [u8],
+    values: &mut [u32],
+) -> Result<HallCounts, PlanRefusal>
+    ensures { FillsLists plan.now kinds.old values.old kinds.new values.new (summary_from result) }
 {
-    let summary = hall::read_halls(plan);
-    if summary.number != answers::DONE {
-        return summary;
+    let counts = hall::read_halls(plan)?;
+    if kinds.len() != counts.entries {
+        return Err(OTHER_LENGTH); // not the plan, but the kinds
     }
-    let entries = summary.entries;
-    if kinds.len() != entries {
-        return hall::refused_summary(answers::MALFORMED_PLAN, answers::NO_PLACE); // not the plan, but the kinds
-    }
-    if values.len() != entries {
-        return hall::refused_summary(answers::MALFORMED_PLAN, answers::NO_PLACE); // not the plan, but the values
+    if values.len() != counts.entries {
+        return Err(OTHER_LENGTH); // not the plan, but the values
     }
     fill::fill_lists(plan, entries_start(plan), kinds, values);
-    summary
+    Ok(counts)
 }

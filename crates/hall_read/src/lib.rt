@@ -1,17 +1,20 @@
-// Reading a hall plan (docs/RULES.md, 'Hall plan'): the hall reader and the entry reader, which call each other, and a hall plan read whole in one pass.
-// Recursion goes by level, eight deep at most; the entries of a hall are a loop.
+// Reading a hall plan (docs/RULES.md, 'Hall plan'): a hall plan read whole in one pass, and the pass itself, over entries wherever they stand.
 #![tactic(auto)]
 
-mod passing; // passing.rt: the two readers, over places inside the plan
+mod passing; // passing.rt: entries one after another, and the pass over a hall and over an entry, which call each other
 
-ghost use Rattle.std.specs.Prelude.{◌≡◌};
-ghost use Rattle.answers.specs.Numbers.{malformed_plan};
+ghost use Rattle.std.specs.Prelude.{◌≡◌, ℕ};
+ghost use Rattle.hall_entry.specs.Bytes.{byte_head};
+ghost use Rattle.hall_entry.specs.Laws.Bytes.{byte_heads};
 ghost use Rattle.hall_read.specs.Halls.{halls_of};
-ghost use Rattle.hall_read.specs.Answers.{end_answer, ReadsHalls};
+ghost use Rattle.hall_read.specs.Answers.{ReadsHalls};
 
+use answers::{Malformed, PlanRefusal};
+use hall_entry::EntryRead;
 use leb128::Number;
+pub use passing::{Entries, pass};
 
-// How far a pass over a hall plan has come: the place that it stands at, the entries and the chutes before it, and the destination of the chute that is looked
+// How far a pass over entries has come: the place that it stands at, the entries and the chutes before it, and the destination of the chute that is looked
 // for, 0 until it is found.
 #[derive(Clone, Copy)]
 pub struct Progress {
@@ -21,82 +24,46 @@ pub struct Progress {
     pub found: u32,
 }
 
-// What passing over entries comes to: how far it has come past them, or the place of the first breach.
-#[derive(Clone, Copy)]
-pub enum Pass {
-    Reached(Progress),
-    Breach(usize),
+// What a whole hall plan has: the outermost number of entries, how many entries and chutes there are, and the destination of one chute, 0 where there is none.
+#[derive(Clone, Copy, Debug, PartialEq, Eq)]
+pub struct HallRead {
+    pub outer: u32,
+    pub entries: usize,
+    pub chutes: u32,
+    pub found: u32,
 }
 
-// What reading a whole hall plan finds: the outermost number of entries, how many entries and chutes there are, and the destination of one chute
-// (0 where there is none); or the refusal's number, 5 or 9, and the place at which the plan is malformed (0 with 5).
-#[derive(Clone, Copy)]
-pub enum HallRead {
-    Halls {
-        outer: u32,
-        entries: usize,
-        chutes: u32,
-        found: u32,
-    },
-    Refused {
-        number: u8,
-        place: usize,
-    },
-}
+// Entries in the bytes of a hall plan.
+impl Entries for &[u8] {
+    ghost Item = { ℕ };
 
-fn malformed(place: usize) -> HallRead
-    ensures { result ≡ HallRead.Refused malformed_plan place }
-{
-    HallRead::Refused {
-        number: answers::MALFORMED_PLAN,
-        place,
+    ghost items = { λ plan. plan.now };
+
+    ghost head = { byte_head };
+
+    fn head_at(self, levels: u32, chutes: u32, at: usize) -> Result<EntryRead, Malformed> {
+        hall_entry::head_at(self, levels, chutes, at)
     }
-}
 
-// Nothing stands after the last entry.
-fn end_reading(length: usize, outer: u32, pass: Pass) -> HallRead
-    ensures { result ≡ end_answer outer length pass }
-{
-    match pass {
-        Pass::Reached(p) => {
-            if p.at < length {
-                return malformed(p.at); // the first byte after the last entry
-            }
-            HallRead::Halls {
-                outer,
-                entries: p.entries,
-                chutes: p.chutes,
-                found: p.found,
-            }
-        }
-        Pass::Breach(place) => malformed(place),
-    }
+    ghost heads = { λ plan levels chutes at. byte_heads plan.now levels chutes at };
 }
 
 // Reads a hall plan whole, in one pass, and keeps the destination of one chute.
-pub fn read_whole(plan: &[u8], chute: u64) -> HallRead
+pub fn read_whole(plan: &[u8], chute: u64) -> Result<HallRead, PlanRefusal>
     ensures { ReadsHalls chute (halls_of plan.now) result }
 {
     if plan_read::MAX_PLAN < plan.len() {
-        return HallRead::Refused {
-            number: answers::INPUT_TOO_LONG,
-            place: answers::NO_PLACE,
-        };
+        return Err(PlanRefusal::TooLong);
     }
-    match leb128::number_at(plan, 0) {
-        Number::Value { value, next } => {
-            let from = Progress {
-                at: next,
-                entries: 0,
-                chutes: 0,
-                found: 0,
-            };
-            end_reading(
-                plan.len(),
-                value,
-                passing::read_hall(plan, value, hall_entry::LEVELS_BELOW, chute, from),
-            )
-        }
-        Number::Bad(place) => malformed(place),
+    let Number { value: outer, next } = leb128::number_at(plan, 0)?;
+    let end = pass(plan, next, outer, chute)?;
+    if end.at < plan.len() {
+        return Err(PlanRefusal::Malformed(Malformed { place: end.at })); // the first byte after the last entry
     }
+    Ok(HallRead {
+        outer,
+        entries: end.entries,
+        chutes: end.chutes,
+        found: end.found,
+    })
 }

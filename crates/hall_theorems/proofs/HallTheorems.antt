@@ -86,7 +86,7 @@ tree_plan s = go (ltb max_plan (length s))
 
     go : (b : Bool) → TreePlan (cond b (refused input_too_long 0) (with_outer (plan_number 0 s)))
     go true = tt
-    go false = of_outer (plan_number 0 s) (number_inside s 0 (omega arith))
+    go false = of_outer (plan_number 0 s) (number_inside s 0)
 
 -- it is that hall, and its entries are those that were read
 pub record ReadHall (s : List ℕ) (outer : ℕ) (l : List Entry) : Type 0 where

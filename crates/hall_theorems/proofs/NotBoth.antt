@@ -10,7 +10,7 @@ use Rattle.answers.specs.Numbers.{done, input_too_long}
 use Rattle.answers.specs.Breaches.{place_of}
 use Rattle.leb128.specs.Number.{Parsed, value, bad, groups}
 use Rattle.plan_read.specs.Limits.{max_plan, max_rows}
-use Rattle.plan_read.specs.Plan.{Plan, rows, refused, plan_number, row, malformed, cons_row, after_number, rows_by, rows_from, plan_by, plan_of, plan_answer}
+use Rattle.plan_read.specs.Plan.{Plan, rows, refused, plan_number, row, malformed, cons_row, after_number, rows_by, rows_from, plan_by, plan_of}
 use Rattle.plan_read.specs.Laws.Refusals.{Numbered, plan_numbered}
 use Rattle.plan_read.specs.declared.Row.{Row}
 use Rattle.plan.specs.Answers.{summary, summary_of}
@@ -173,8 +173,8 @@ pub not_both : (s : List ℕ) → (summary_of s).number ≡ done → (hall_summa
 unfolding summary_of hall_summary_of
 not_both s e q = go (plan_of s) (halls_of s) refl refl (plan_numbered s) (halls-numbered s) e q
   where
-    go : (p : Plan) (h : HallPlan) → plan_of s ≡ p → halls_of s ≡ h → Numbered p → NumberedHalls h → (summary (plan_answer 0 p)).number ≡ done
-        → (hall_summary h).number ≡ done → ((summary (plan_answer 0 p)).rows ≡ 0) × ((hall_summary h).outer ≡ 0)
+    go : (p : Plan) (h : HallPlan) → plan_of s ≡ p → halls_of s ≡ h → Numbered p → NumberedHalls h → (summary p).number ≡ done
+        → (hall_summary h).number ≡ done → ((summary p).rows ≡ 0) × ((hall_summary h).outer ≡ 0)
     go (rows l) (halls outer m) a b u w x y = both s l outer m a b
     go (rows l) (refused_halls n place) a b u w x y = absurd (omega arith)
     go (refused n place) h a b u w x y = absurd (omega arith)

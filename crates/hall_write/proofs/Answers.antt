@@ -1,17 +1,13 @@
 -- Which case of the definitions holds, from the length that was asked for first.
-use mathlib.Core.Path.{◌≡◌, refl, sym, ap, ◌∙◌}
-use mathlib.Core.List.{List}
-use mathlib.Core.Bool.{Bool, true, false, cond, ◌&&◌}
-use Prim.Native.Nat.{ℕ, ◌+◌, ◌≤◌, ◌<◌}
-use native.Mathlib.Omega.{arith}
-use lib.ListN.{length}
-use lib.Seq.{sets}
-use lib.Dec.{ltb, eqb}
+use Rattle.std.proofs.Common.{◌≡◌, refl, sym, ap, ◌∙◌, List, Bool, true, false, cond, ◌&&◌, ℕ, ◌+◌, ◌≤◌, ◌<◌, arith, length, ltb, eqb, Ok, Err}
+use Rattle.std.proofs.Math.Seq.{sets}
 use borrow.Author.Tests.{lt-ltb, le-ltb, ltb-true, ltb-false, eq-eqb, ne_eqb}
+use Rattle.answers.specs.Places.{plan_refusal_number}
+use Rattle.answers.specs.declared.PlanRefusal.{PlanRefusal}
 use Rattle.answers.specs.Numbers.{done, input_too_long, malformed_plan}
 use Rattle.leb128_write.specs.Written.{written_number}
 use Rattle.plan_read.specs.Limits.{max_plan}
-use Rattle.plan_length.specs.Length.{length_is, no_length, write_answer}
+use Rattle.plan_length.specs.Length.{length_is, no_length, write_answer, length_from}
 use Rattle.plan_length.specs.declared.PlanLength.{PlanLength}
 use Rattle.hall_check.specs.Lists.{pairs, lists_allowed}
 use Rattle.hall_length.specs.Written.{written_entries, written_halls}
@@ -89,3 +85,18 @@ module _ (outer : ℕ) (kinds values : List ℕ) where
           answer = ap write_answer (sym (rw m at filled));
           buffer = rw (le-ltb _ _ short, a.ok, eq-eqb _ _ same) (sym whole ∙ sets_all out Text same);
         }
+
+-- a refusal has a number
+some_number : (r : PlanRefusal) → plan_refusal_number r ≡ done → ⊥
+some_number PlanRefusal.TooLong e = omega arith
+some_number (PlanRefusal.Malformed m) e = omega arith
+some_number PlanRefusal.NoSuchChute e = omega arith
+
+-- from what was answered of the length
+module _ (outer : ℕ) (kinds values : List ℕ) where
+  pub no_length_asked : (r : PlanRefusal) → length_from (Err r) ≡ hall_length_of outer kinds values → (out : List ℕ) → length out ≤ max_plan
+      → WritesHalls outer kinds values out out (write_answer malformed_plan)
+  no_length_asked r e out short = refused outer kinds values (length_from (Err r)) e out short (some_number r)
+
+  pub length_asked : (n : ℕ) → length_from (Ok n) ≡ hall_length_of outer kinds values → Asked outer kinds values n
+  length_asked n e = asked outer kinds values (length_from (Ok n)) e refl

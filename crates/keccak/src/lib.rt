@@ -5,7 +5,7 @@
 ghost use Rattle.std.specs.Prelude.{◌≡◌};
 ghost use Rattle.fips202.specs.Fips202.{keccak_p};
 
-use keccak_places::{evens, joined, odds};
+use keccak_places::Columns;
 use keccak_rounds::{constants, rounds};
 
 // The permutation.
@@ -13,10 +13,9 @@ pub fn keccak_p(a: [u64; 25]) -> [u64; 25]
     ensures { result ≡ keccak_p a }
 {
     let k = constants();
-    let mut p = evens(a);
-    let mut q = odds(a);
-    rounds(&mut p, &mut q, &k);
-    joined(p, q)
+    let mut c = Columns::of(a);
+    rounds(&mut c, &k);
+    c.joined()
 }
 
 // The permutation of lanes where they stand.

@@ -7,7 +7,7 @@ use std::io;
 // 1,000 permutations.
 fn thousand(lanes: [u64; 25]) -> [u64; 25] {
     let mut state = lanes;
-    for _i in 0usize..1000 {
+    for _ in 0..1000 {
         keccak::permute(&mut state);
     }
     state

@@ -3,52 +3,28 @@
 
 ghost use Rattle.std.specs.Prelude.{◌≡◌, ◌+◌, ◌-◌, ◌*◌, ◌/◌, ◌%◌, ◌<◌, ◌≤◌, min, length, take, drop};
 ghost use Rattle.fips202.specs.Bytes.{xor_byte, xor_bytes};
-ghost use Rattle.encode.specs.Digits.{digits, number_of};
+ghost use Rattle.encode.specs.Digits.{digits};
 ghost use Rattle.encode.specs.Padding.{rate};
 ghost use Rattle.lanes_in.specs.Words.{word_at};
 
 use encode::RATE;
 
-// The bytes of `s` from `at` on as a number: one, two, four and eight of them. The compiler makes each eight one load.
-fn load1(s: &[u8], at: usize) -> u64
-    requires { at + 1 ≤ length s.now }
-    ensures { (result ≡ number_of 256 (take 1 (drop at s.now))) × (result < 0x100) }
-{
-    s[at] as u64
-}
-
-fn load2(s: &[u8], at: usize) -> u64
-    requires { at + 2 ≤ length s.now }
-    ensures { (result ≡ number_of 256 (take 2 (drop at s.now))) × (result < 0x1_0000) }
-{
-    load1(s, at) + load1(s, at + 1) * 0x100
-}
-
-fn load4(s: &[u8], at: usize) -> u64
-    requires { at + 4 ≤ length s.now }
-    ensures { (result ≡ number_of 256 (take 4 (drop at s.now))) × (result < 0x1_0000_0000) }
-{
-    load2(s, at) + load2(s, at + 2) * 0x1_0000
-}
-
-fn load8(s: &[u8], at: usize) -> u64
-    requires { at + 8 ≤ length s.now }
-    ensures { result ≡ number_of 256 (take 8 (drop at s.now)) }
-{
-    load4(s, at) + load4(s, at + 4) * 0x1_0000_0000
-}
-
 // The eight bytes of `s` from `at` on as a number; 0 where there are not so many.
+#[tactic(auto, using(crate::specs::Laws::Lanes::no_word))]
 pub fn word_at(s: &[u8], at: usize) -> u64
     ensures { result ≡ word_at s.now at }
 {
+    // The tests in these words, and not `get`: a caller that has made the second one for a block saves them for its words (2 per cent of a long absorb).
     if s.len() < 8 {
         return 0;
     }
     if s.len() - 8 < at {
         return 0;
     }
-    load8(s, at)
+    let Some(bytes) = s[at..at + 8].first_chunk() else {
+        return 0
+    };
+    u64::from_le_bytes(*bytes)
 }
 
 // The byte `b` put in at byte `p` of the block.
@@ -56,77 +32,45 @@ fn xor_at(lanes: &mut [u64; 25], p: usize, b: u8)
     requires { p < rate }
     ensures { lanes.new ≡ xor_byte lanes.old p b }
 {
-    lanes[p / 8] = lanes[p / 8] ^ ((b as u64) << (8 * (p % 8)));
+    lanes[p / 8] ^= u64::from(b) << (8 * (p % 8));
 }
 
-// The eight bytes of `s` from `at` on put in at byte `p`, where a lane begins.
-fn xor_lane(lanes: &mut [u64; 25], p: usize, s: &[u8], at: usize)
-    requires { (p % 8 ≡ 0) × (p < rate) × (at + 8 ≤ length s.now) }
-    ensures { lanes.new ≡ xor_bytes lanes.old p (take 8 (drop at s.now)) }
+// The bytes of `piece` put in from byte `p` on, one by one.
+fn xor_few(lanes: &mut [u64; 25], p: usize, piece: &[u8])
+    requires { p + length piece.now ≤ rate }
+    ensures { lanes.new ≡ xor_bytes lanes.old p piece.now }
 {
-    lanes[p / 8] = lanes[p / 8] ^ load8(s, at);
-}
-
-// Bytes of `s` from `at` on put in at byte `p`, as many as its lane has from there: the shift drops the others of the eight.
-fn xor_first(lanes: &mut [u64; 25], p: usize, s: &[u8], at: usize)
-    requires { (p < rate) × (at + 8 ≤ length s.now) }
-    ensures { lanes.new ≡ xor_bytes lanes.old p (take (8 - p % 8) (drop at s.now)) }
-{
-    lanes[p / 8] = lanes[p / 8] ^ (load8(s, at) << (8 * (p % 8)));
-}
-
-// The `n` bytes of `s` before `end` put in at byte `p`, where a lane begins: the shift drops those before them of the last eight.
-fn xor_last(lanes: &mut [u64; 25], p: usize, s: &[u8], end: usize, n: usize)
-    requires { (p % 8 ≡ 0) × (p < rate) × (0 < n) × (n ≤ 8) × (8 ≤ end) × (end ≤ length s.now) }
-    ensures { lanes.new ≡ xor_bytes lanes.old p (take n (drop (end - n) s.now)) }
-{
-    lanes[p / 8] = lanes[p / 8] ^ (load8(s, end - 8) >> (64 - 8 * n));
-}
-
-// The `n` bytes of `s` from `at` on belong at byte `p` and after it. This puts in those from the `from`th on, which begins a lane: lane by lane, then the last.
-fn xor_rest(lanes: &mut [u64; 25], p: usize, s: &[u8], at: usize, n: usize, from: usize)
-    requires { ((p + from) % 8 ≡ 0) × (from ≤ n) × (p + n ≤ rate) × (8 ≤ at + n) × (at + n ≤ length s.now) }
-    ensures { lanes.new ≡ xor_bytes lanes.old (p + from) (take (n - from) (drop (at + from) s.now)) }
-{
-    let mut i = from;
-    while i + 8 <= n {
-        xor_lane(lanes, p + i, s, at + i);
-        i += 8;
-    }
-    if i < n {
-        xor_last(lanes, p + i, s, at + n, n - i);
+    for (i, b) in piece.iter().enumerate() {
+        xor_at(lanes, p + i, *b);
     }
 }
 
-// The `n` bytes of `s` from `at` on put in from byte `p` on, one by one.
-fn xor_few(lanes: &mut [u64; 25], p: usize, s: &[u8], at: usize, n: usize)
-    requires { (p + n ≤ rate) × (at + n ≤ length s.now) }
-    ensures { lanes.new ≡ xor_bytes lanes.old p (take n (drop at s.now)) }
+// The bytes of `piece` put in from byte `p` on, where the block has room for them: lane by lane, and one by one only if they are fewer than eight. A shift
+// drops the bytes of the first eight that belong to the next lane, and those of the last eight that a lane before has.
+fn xor_some(lanes: &mut [u64; 25], p: usize, piece: &[u8])
+    requires { p + length piece.now ≤ rate }
+    ensures { lanes.new ≡ xor_bytes lanes.old p piece.now }
 {
-    let mut i = 0;
-    while i < n {
-        xor_at(lanes, p + i, s[at + i]);
-        i += 1;
-    }
-}
-
-// The `n` bytes of `s` from `at` on put in from byte `p` on, where the block has room for them: lane by lane, and one by one only if they are fewer than eight.
-fn xor_some(lanes: &mut [u64; 25], p: usize, s: &[u8], at: usize, n: usize)
-    requires { (p + n ≤ rate) × (at + n ≤ length s.now) }
-    ensures { lanes.new ≡ xor_bytes lanes.old p (take n (drop at s.now)) }
-{
-    if n < 8 {
-        xor_few(lanes, p, s, at, n);
+    let Some(first) = piece.first_chunk() else {
+        xor_few(lanes, p, piece);
+        return;
+    };
+    lanes[p / 8] ^= u64::from_le_bytes(*first) << (8 * (p % 8));
+    // What follows would do nothing, but a call with a piece of eight bytes takes 1 per cent less for this test.
+    if piece.len() == 8 - p % 8 {
         return;
     }
-    xor_first(lanes, p, s, at);
-    xor_rest(lanes, p, s, at, n, 8 - p % 8);
-}
-
-fn shorter(a: usize, b: usize) -> usize
-    ensures { result ≡ min a b }
-{
-    if a < b { a } else { b }
+    let next = p / 8 + 1;
+    let (words, rest) = piece[8 - p % 8..].as_chunks::<8>();
+    for (i, word) in words.iter().enumerate() {
+        lanes[next + i] ^= u64::from_le_bytes(*word);
+    }
+    let Some(last) = piece.last_chunk() else {
+        return
+    };
+    if rest.len() != 0 {
+        lanes[next + words.len()] ^= u64::from_le_bytes(*last) >> (64 - 8 * rest.len());
+    }
 }
 
 // The byte `b` put in at byte `p` of the block, p taken modulo the block's length.
@@ -137,25 +81,25 @@ pub fn xor_byte(lanes: &mut [u64; 25], p: usize, b: u8)
 }
 
 // The eight bytes of the word `w`, the lowest first, put in at lane `i` of the block, i taken modulo its number of lanes.
+#[tactic(auto, using(crate::proofs::Lanes::word_put))]
 pub fn xor_word(lanes: &mut [u64; 25], i: usize, w: u64)
     ensures { lanes.new ≡ xor_bytes lanes.old (8 * (i % (rate / 8))) (digits 256 8 w) }
 {
-    let lane = i % (RATE / 8);
-    lanes[lane] = lanes[lane] ^ w;
+    lanes[i % (RATE / 8)] ^= w;
 }
 
-// As many bytes of `s` from `at` on as the block has room for from byte `p` on; how many they are.
+// As many bytes of `s` from `at` on as the block has room for from byte `p` on; how many they are. It takes a slice and a place, as docs/CONTRACTS.md has it,
+// and so answers where the place is past the end, too.
+#[tactic(auto, unfolding(fips202::specs::Bytes::xor_bytes))]
 pub fn xor_in(lanes: &mut [u64; 25], p: usize, s: &[u8], at: usize) -> usize
     ensures { (result ≡ min (rate - p) (length s.now - at))
         × (lanes.new ≡ xor_bytes lanes.old p (take result (drop at s.now))) }
 {
+    let Some(piece) = s.get(at..) else { return 0 };
     if RATE <= p {
         return 0;
     }
-    if s.len() <= at {
-        return 0;
-    }
-    let n = shorter(RATE - p, s.len() - at);
-    xor_some(lanes, p, s, at, n);
+    let n = piece.len().min(RATE - p);
+    xor_some(lanes, p, &piece[..n]);
     n
 }

@@ -4,106 +4,67 @@
 ghost use Rattle.std.specs.Prelude.{◌≡◌, ◌+◌, ◌-◌, ◌*◌, ◌%◌, ◌<◌, ◌≤◌, min, length};
 ghost use Rattle.std.proofs.lemmas.List.Edits.{sets};
 ghost use Rattle.fips202.specs.Bytes.{byte_at, bytes_at};
-ghost use Rattle.encode.specs.Digits.{digits};
 ghost use Rattle.encode.specs.Padding.{rate};
 
 use encode::RATE;
-
-// The low bytes of `v` into `out` from `at` on: one, two, four and eight of them. The compiler makes each eight one store.
-fn store1(out: &mut [u8], at: usize, v: u64)
-    requires { at + 1 ≤ length out.old }
-    ensures { out.new ≡ sets out.old at (digits 256 1 v) }
-{
-    out[at] = (v % 256) as u8;
-}
-
-fn store2(out: &mut [u8], at: usize, v: u64)
-    requires { at + 2 ≤ length out.old }
-    ensures { out.new ≡ sets out.old at (digits 256 2 v) }
-{
-    store1(out, at, v);
-    store1(out, at + 1, v / 0x100);
-}
-
-fn store4(out: &mut [u8], at: usize, v: u64)
-    requires { at + 4 ≤ length out.old }
-    ensures { out.new ≡ sets out.old at (digits 256 4 v) }
-{
-    store2(out, at, v);
-    store2(out, at + 2, v / 0x1_0000);
-}
-
-fn store8(out: &mut [u8], at: usize, v: u64)
-    requires { at + 8 ≤ length out.old }
-    ensures { out.new ≡ sets out.old at (digits 256 8 v) }
-{
-    store4(out, at, v);
-    store4(out, at + 4, v / 0x1_0000_0000);
-}
 
 // The byte `p`.
 fn byte_at(lanes: &[u64; 25], p: usize) -> u8
     requires { p < rate }
     ensures { result ≡ byte_at lanes.now p }
 {
-    ((lanes[p / 8] >> (8 * (p % 8))) % 256) as u8
+    lanes[p / 8].to_le_bytes()[p % 8]
 }
 
-// The `m` lanes from lane `q` on into `out` from `at` on.
-fn put_lanes(out: &mut [u8], at: usize, lanes: &[u64; 25], q: usize, m: usize)
-    requires { (8 * (q + m) ≤ rate) × (at + 8 * m ≤ length out.old) }
-    ensures { out.new ≡ sets out.old at (bytes_at lanes.now (8 * q) (8 * m)) }
+// The lanes from lane `q` on into `out`, which has room for whole ones.
+fn put_lanes(out: &mut [u8], lanes: &[u64; 25], q: usize)
+    requires { (length out.old % 8 ≡ 0) × (8 * q + length out.old ≤ rate) }
+    ensures { out.new ≡ bytes_at lanes.now (8 * q) (length out.old) }
 {
-    let mut i = 0;
-    while i < m {
-        store8(out, at + 8 * i, lanes[q + i]);
-        i += 1;
+    let m = out.len() / 8;
+    for (i, lane) in lanes[q..q + m].iter().enumerate() {
+        out[8 * i..8 * i + 8].copy_from_slice(&lane.to_le_bytes());
     }
 }
 
-// The `n` bytes from byte `p` on into `out` from `at` on, one by one.
-fn put_few(out: &mut [u8], at: usize, lanes: &[u64; 25], p: usize, n: usize)
-    requires { (p + n ≤ rate) × (at + n ≤ length out.old) }
-    ensures { out.new ≡ sets out.old at (bytes_at lanes.now p n) }
+// The bytes from byte `p` on into `out`, one by one.
+fn put_few(out: &mut [u8], lanes: &[u64; 25], p: usize)
+    requires { p + length out.old ≤ rate }
+    ensures { out.new ≡ bytes_at lanes.now p (length out.old) }
 {
-    let mut i = 0;
-    while i < n {
-        out[at + i] = byte_at(lanes, p + i);
-        i += 1;
+    for (i, byte) in out.iter_mut().enumerate() {
+        *byte = byte_at(lanes, p + i);
     }
 }
 
-// The `n` bytes from byte `p` on, where a lane begins: whole lanes by lanes, and then fewer than eight bytes.
-fn put_rest(out: &mut [u8], at: usize, lanes: &[u64; 25], p: usize, n: usize)
-    requires { (p % 8 ≡ 0) × (p + n ≤ rate) × (at + n ≤ length out.old) }
-    ensures { out.new ≡ sets out.old at (bytes_at lanes.now p n) }
+// The bytes from lane `q` on into `out`: whole lanes, and then fewer than eight bytes.
+fn put_rest(out: &mut [u8], lanes: &[u64; 25], q: usize)
+    requires { 8 * q + length out.old ≤ rate }
+    ensures { out.new ≡ bytes_at lanes.now (8 * q) (length out.old) }
 {
-    put_lanes(out, at, lanes, p / 8, n / 8);
-    if n % 8 != 0 {
-        let i = n / 8 * 8;
-        put_few(out, at + i, lanes, p + i, n % 8);
-    }
+    let whole = out.len() / 8 * 8;
+    put_lanes(&mut out[..whole], lanes, q);
+    put_few(&mut out[whole..], lanes, 8 * q + whole);
 }
 
-// The `n` bytes from byte `p` on, where the block has them, into `out` from `at` on: the bytes before a lane begins, and the rest.
-fn put_some(out: &mut [u8], at: usize, lanes: &[u64; 25], p: usize, n: usize)
-    requires { (p + n ≤ rate) × (at + n ≤ length out.old) }
-    ensures { out.new ≡ sets out.old at (bytes_at lanes.now p n) }
+// The bytes from byte `p` on into `out`, where the block has them: those before a lane begins, and the rest. It is not inlined, so that `put_out` is, where
+// whole blocks are squeezed.
+#[inline(never)]
+fn put_some(out: &mut [u8], lanes: &[u64; 25], p: usize)
+    requires { p + length out.old ≤ rate }
+    ensures { out.new ≡ bytes_at lanes.now p (length out.old) }
 {
-    if p % 8 == 0 {
-        put_rest(out, at, lanes, p, n);
+    let begun = (8 - p % 8) % 8;
+    if out.len() < begun {
+        put_few(out, lanes, p);
         return;
     }
-    let first = 8 - p % 8;
-    if n < first {
-        put_few(out, at, lanes, p, n);
-        return;
-    }
-    put_few(out, at, lanes, p, first);
-    put_rest(out, at + first, lanes, p + first, n - first);
+    put_few(&mut out[..begun], lanes, p);
+    put_rest(&mut out[begun..], lanes, (p + begun) / 8);
 }
 
-// As many bytes as the block has from byte `p` on, and `out` has room for from `at` on, into it; how many they are.
+// As many bytes as the block has from byte `p` on, and `out` has room for from `at` on, into it; how many they are. It takes a slice and a place, as
+// docs/CONTRACTS.md has it, and so answers where the place is past the end, too.
 pub fn put_out(out: &mut [u8], at: usize, lanes: &[u64; 25], p: usize) -> usize
     ensures { (result ≡ min (rate - p) (length out.old - at))
         × (out.new ≡ sets out.old at (bytes_at lanes.now p result)) }
@@ -114,15 +75,11 @@ pub fn put_out(out: &mut [u8], at: usize, lanes: &[u64; 25], p: usize) -> usize
     if out.len() <= at {
         return 0;
     }
-    let left = out.len() - at;
-    if left < RATE - p {
-        put_some(out, at, lanes, p, left);
-        return left;
+    let n = (out.len() - at).min(RATE - p);
+    if n == RATE {
+        put_lanes(&mut out[at..at + RATE], lanes, 0);
+    } else {
+        put_some(&mut out[at..at + n], lanes, p);
     }
-    if p == 0 {
-        put_lanes(out, at, lanes, 0, RATE / 8);
-        return RATE;
-    }
-    put_some(out, at, lanes, p, RATE - p);
-    RATE - p
+    n
 }

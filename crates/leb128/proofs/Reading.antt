@@ -10,13 +10,13 @@ use lib.Dec.{ltb}
 use borrow.Author.Tests.{lt-ltb, le-ltb}
 use Rattle.leb128.specs.Number.{Parsed, value, bad, last_group, next_group, groups}
 use Rattle.leb128.specs.Answers.{ReadsNumber}
-use Rattle.leb128.specs.declared.Number.TheVariants.{Value, Bad}
+use Rattle.std.specs.Prelude.{Ok, Err}
 
 -- the answer, by what was read
-pub read_value : (p : Parsed) (v next : ℕ) (rest : List ℕ) → value v next rest ≡ p → ReadsNumber p (Value v next)
+pub read_value : (p : Parsed) (v next : ℕ) (rest : List ℕ) → value v next rest ≡ p → ReadsNumber p (Ok (record { value = v; next = next }))
 read_value p v next rest e = rw (← e) (record { answer = refl; values = refl })
 
-pub read_bad : (p : Parsed) (place : ℕ) → bad place ≡ p → ReadsNumber p (Bad place)
+pub read_bad : (p : Parsed) (place : ℕ) → bad place ≡ p → ReadsNumber p (Err (record { place = place }))
 read_bad p place e = rw (← e) (record { answer = refl; values = refl })
 
 -- the byte at a place, and the list from the next place on

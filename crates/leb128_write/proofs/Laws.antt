@@ -1,5 +1,5 @@
 -- Laws of a number written, over the number of groups: its groups one after another, how many they are, and that they read as the number.
-use Rattle.std.specs.Prelude.{◌≡◌, List, [], ◌∷◌, ◌++◌, Bool, ◌||◌, ltb}
+use Rattle.std.specs.Prelude.{◌≡◌, Some, None, List, [], ◌∷◌, ◌++◌, Bool, ◌||◌, ltb}
 use Rattle.std.proofs.Math.Path.{refl}
 use Rattle.std.proofs.Common.{ap}
 use Rattle.std.proofs.Math.Bool.{true, false, cond}
@@ -12,7 +12,7 @@ use borrow.Author.Tests.{lt-ltb, le-ltb, ltb-false, le-leb, leb-true, leb-false}
 use Rattle.leb128.specs.Number.{value, groups, number, limit, max_number}
 use Rattle.leb128.specs.Laws.Reading.{limit_three}
 use Rattle.leb128_write.specs.Written.{written_groups, written_number}
-use Rattle.leb128_write.specs.Answers.{number_length, number_fits, written_past, number_written}
+use Rattle.leb128_write.specs.Answers.{number_length, number_fits, written_past, number_written, unless_zero}
 
 pub groups_last : (more v : ℕ) → v < 128 → written_groups more v ≡ v ∷ []
 unfolding written_groups
@@ -55,6 +55,11 @@ number_back is_first (suc more) at v rest h ok = go (ltb v 128) refl (number_bac
         let n : at + 1 + length high ≡ at + suc (length high) = omega arith in
         rw (le-ltb _ _ l, ih (lt-ltb _ _ some), m, n)
 
+-- an answer that is not 0
+pub some_answer : (n : ℕ) → 1 ≤ n → unless_zero n ≡ Some n
+some_answer zero h = absurd (omega arith)
+some_answer (suc n) h = refl
+
 -- a number of three groups at most
 module _ (at v : ℕ) (h : v ≤ max_number) where
   pub number_read : (rest : List ℕ) → number at (written_number v ++ rest) ≡ value v (at + length (written_number v)) rest
@@ -74,25 +79,29 @@ module _ (at v : ℕ) (h : v ≤ max_number) where
     unfolding number_written
     is_written = rw fits
 
+    pub past_some : unless_zero (written_past at v (length out)) ≡ Some (at + length (written_number v))
+    past_some = rw past_written (some_answer (at + length (written_number v)) (omega (arith, groups_count 2 v)))
+
 -- the length of a number that is not above the largest
 pub length_is_lem : (v : ℕ) → v ≤ max_number → number_length v ≡ length (written_number v)
 unfolding number_length
 length_is_lem v h = rw (le-leb _ _ h)
 
--- a length that is not 0 is that of a number which is not above the largest
-module _ (v n : ℕ) (e : n ≡ number_length v) where
-  pub length_known : (n ≡ 0 → ⊥) → (v ≤ max_number) × (n ≡ length (written_number v))
+-- the answers: a length is that of a number which is not above the largest, and there is none only above it
+module _ (v : ℕ) where
+  pub length_known : (n : ℕ) → Some n ≡ unless_zero (number_length v) → (v ≤ max_number) × (n ≡ length (written_number v))
   unfolding number_length
-  length_known z = go (leb v max_number) refl e
+  length_known n e = go (leb v max_number) refl e
     where
-      go : (t : Bool) → leb v max_number ≡ t → n ≡ cond t (length (written_number v)) 0 → (v ≤ max_number) × (n ≡ length (written_number v))
-      go true k q = (leb-true _ _ k, q)
-      go false k q = absurd (z q)
+      go : (t : Bool) → leb v max_number ≡ t → Some n ≡ unless_zero (cond t (length (written_number v)) 0)
+          → (v ≤ max_number) × (n ≡ length (written_number v))
+      go true k q = let s = some_answer (length (written_number v)) (omega (arith, groups_count 2 v)) in (leb-true _ _ k, cc)
+      go false k q = absurd cc
 
-  pub length_none : n ≡ 0 → max_number < v
+  pub length_none : None ≡ unless_zero (number_length v) → max_number < v
   unfolding number_length
-  length_none z = go (leb v max_number) refl e
+  length_none e = go (leb v max_number) refl e
     where
-      go : (t : Bool) → leb v max_number ≡ t → n ≡ cond t (length (written_number v)) 0 → max_number < v
-      go true k q = absurd (omega (arith, groups_count 2 v))
+      go : (t : Bool) → leb v max_number ≡ t → None ≡ unless_zero (cond t (length (written_number v)) 0) → max_number < v
+      go true k q = let s = some_answer (length (written_number v)) (omega (arith, groups_count 2 v)) in absurd cc
       go false k q = leb-false _ _ k

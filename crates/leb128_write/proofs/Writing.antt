@@ -1,19 +1,15 @@
 -- Laws of a number written group by group, over the number of groups: what is left of it, the stores that put it down, and when there is room.
-use mathlib.Core.Path.{◌≡◌, refl, ap}
-use mathlib.Core.List.{List, ◌∷◌}
-use mathlib.Core.Bool.{Bool, true, false, cond, ◌&&◌}
-use Prim.Native.Nat.{ℕ, zero, suc, ◌+◌, ◌-◌, ◌/◌, ◌%◌, ◌≤◌, ◌<◌}
-use native.Mathlib.Omega.{arith}
-use native.Mathlib.Numerals.{add-one}
-use lib.ListN.{length, set}
-use lib.Seq.{sets}
-use lib.Dec.{leb}
-use borrow.Author.Tests.{le-ltb, le-leb, lt-leb}
+use Rattle.std.specs.Prelude.{◌≡◌, refl, List, [], ◌∷◌, ◌++◌, Bool, true, false, cond, Option, Some, None, ℕ, zero, suc, ◌+◌, ◌-◌, ◌/◌, ◌%◌, ◌≤◌, ◌<◌, length, take, drop, get_or, set, ltb}
+use Rattle.std.proofs.Common.{sym, ◌∙◌, ap, append_assoc, arith, lt-ltb, le-ltb, ltb-true, ltb-false, le-leb, length-drop, get_or-drop, drop-drop, get_or-set_same}
+use Rattle.std.proofs.lemmas.Bool.{lt-leb}
+use borrow.Rule.Slice.PartMut.{put_mid}
+use Rattle.std.proofs.lemmas.List.{take_all, take_more_same, length-set, take-set}
+use Rattle.std.proofs.lemmas.List.Edits.{sets-eq}
 use Rattle.leb128.specs.Number.{limit, max_number}
-use Rattle.leb128_write.specs.Written.{written_groups, written_number}
-use Rattle.leb128_write.specs.Answers.{number_length, number_fits, written_past, number_written}
 use Rattle.leb128.specs.Laws.Reading.{limit_three}
-use Rattle.leb128_write.proofs.Laws.{groups_last, groups_count}
+use Rattle.leb128_write.specs.Written.{written_groups, written_number}
+use Rattle.leb128_write.specs.Answers.{number_length, number_fits, written_past, number_written, unless_zero}
+use Rattle.leb128_write.proofs.Laws.{groups_last, is_written, past_some}
 
 groups_more : (more v : ℕ) → 1 ≤ more → 128 ≤ v → written_groups more v ≡ (128 + v % 128) ∷ written_groups (more - 1) (v / 128)
 unfolding written_groups
@@ -30,60 +26,96 @@ unfolding limit
 limit_less zero v l h = absurd (omega arith)
 limit_less (suc more) v l h = let k : suc more - 1 ≡ more = omega arith in rw k (omega arith)
 
--- `passed` groups of v are passed, and `rest` is the number that the groups to come make
+-- The turns of the stores. `passed` groups of v stand in s, which has just as many bytes as v takes; unless these are all, `rest` is the number that the
+-- groups to come make.
 pub record GroupsLeft (v rest passed : ℕ) : Type 0 where
-  pub within : passed ≤ 2
   pub small : rest < limit (2 - passed)
-  pub all : passed + length (written_groups (2 - passed) rest) ≡ length (written_number v)
+  pub groups : drop passed (written_number v) ≡ written_groups (2 - passed) rest
 
-pub left_start : (v : ℕ) → v ≤ max_number → GroupsLeft v v 0
-left_start v h = record { within = omega arith; small = omega (arith, limit_three); all = omega arith }
+pub record Stored (v rest passed : ℕ) (s : List ℕ) : Type 0 where
+  pub before : take passed s ≡ take passed (written_number v)
+  pub left : passed < length s → GroupsLeft v rest passed
 
-module _ (v rest passed : ℕ) (g : GroupsLeft v rest passed) where
-  pub left_some : 128 ≤ rest → 1 ≤ 2 - passed
-  left_some h = limit_some (2 - passed) rest g.small h
+-- the next group, which fits a byte
+abbrev pub group_of : ℕ → ℕ
+group_of rest = cond (ltb rest 128) rest (128 + rest % 128)
 
-  pub left_more : 128 ≤ rest → GroupsLeft v (rest / 128) (passed + 1)
-  left_more h =
-      let some : 1 ≤ 2 - passed = left_some h in
+group_first : (more v : ℕ) → v < limit more → get_or (written_groups more v) 0 0 ≡ group_of v
+unfolding written_groups limit
+group_first zero v h = rw (lt-ltb v 128 h)
+group_first (suc more) v h = go (ltb v 128)
+  where
+    go : (t : Bool) → get_or (cond t (v ∷ []) ((128 + v % 128) ∷ written_groups more (v / 128))) 0 0 ≡ cond t v (128 + v % 128)
+    go true = refl
+    go false = refl
+
+pub stored_none : (v : ℕ) (s : List ℕ) → v ≤ max_number → Stored v v 0 s
+stored_none v s h = record { before = refl; left = λ some. record { small = omega (arith, limit_three); groups = refl } }
+
+pub stored_all : (v rest passed : ℕ) (s : List ℕ) → length s ≡ length (written_number v) → passed ≡ length s → Stored v rest passed s → s ≡ written_number v
+stored_all v rest passed s n e h =
+    sym (take_all passed s (omega arith)) ∙ h.before ∙ take_all passed (written_number v) (omega arith)
+
+module _ (v rest passed : ℕ) (s : List ℕ) (n : length s ≡ length (written_number v)) (here : passed < length s) (h : Stored v rest passed s) where
+  left : GroupsLeft v rest passed
+  left = h.left here
+
+  first_left : get_or (written_number v) passed 0 ≡ group_of rest
+  first_left =
+      let first = get_or-drop passed (written_number v) 0 0 in
+      let k : passed + 0 ≡ passed = omega arith in
+      sym (rw k at first) ∙ ap (λ (l : List ℕ). get_or l 0 0) left.groups ∙ group_first (2 - passed) rest left.small
+
+  -- the groups after one that promises another
+  others : (t : Bool) → ltb rest 128 ≡ t → passed + 1 < length s → GroupsLeft v (rest / 128) (passed + 1)
+  others true e more =
+      let last = groups_last (2 - passed) rest (ltb-true rest 128 e) in
+      absurd (omega (arith, length-drop passed (written_number v), ap length left.groups, ap length last))
+  others false e more =
+      let large : 128 ≤ rest = ltb-false rest 128 e in
+      let some : 1 ≤ 2 - passed = limit_some (2 - passed) rest left.small large in
       let k : 2 - (passed + 1) ≡ 2 - passed - 1 = omega arith in
       record {
-        within = omega arith;
-        small = rw k (limit_less (2 - passed) rest g.small some);
-        all = rw k (omega (arith, g.all, ap length (groups_more (2 - passed) rest some h)));
+        small = rw k (limit_less (2 - passed) rest left.small some);
+        groups =
+            rw k
+            (sym (drop-drop 1 passed (written_number v)) ∙ ap (drop 1) left.groups ∙ ap (drop 1) (groups_more (2 - passed) rest some large));
       }
 
-  pub left_last : rest < 128 → passed + 1 ≡ length (written_number v)
-  left_last h = omega (arith, g.all, ap length (groups_last (2 - passed) rest h))
-
-  pub left_room : passed + 1 ≤ length (written_number v)
-  left_room = omega (arith, g.all, groups_count (2 - passed) rest)
-
-module _ (out : List ℕ) (next more rest : ℕ) where
-  pub sets_more : 1 ≤ more → 128 ≤ rest
-      → sets out next (written_groups more rest) ≡ sets (set out next (128 + rest % 128)) (next + 1) (written_groups (more - 1) (rest / 128))
-  sets_more z h = rw (groups_more more rest z h, add-one)
-
-  pub sets_last : rest < 128 → sets out next (written_groups more rest) ≡ set out next rest
-  sets_last h = rw (groups_last more rest h)
+  pub stored_more : Stored v (rest / 128) (passed + 1) (set s passed (group_of rest))
+  stored_more =
+      record {
+        before = take_more_same (set s passed (group_of rest)) (written_number v) passed 0 (omega (arith, length-set s passed (group_of rest))) (omega arith)
+            (take-set s passed (group_of rest) ∙ h.before) (get_or-set_same s passed (group_of rest) 0 here ∙ sym first_left);
+        left = λ more. others (ltb rest 128) refl (omega (arith, length-set s passed (group_of rest), more));
+      }
 
 -- how many bytes it takes
 pub length_large : (v : ℕ) → max_number < v → 0 ≡ number_length v
 unfolding number_length
 length_large v h = rw (lt-leb _ _ h)
 
--- a number that is not written
-pub none_large : (at v : ℕ) (out : List ℕ) → 0 ≡ number_length v → (0 ≡ written_past at v (length out)) × (out ≡ number_written at v out)
-unfolding number_length written_past number_written number_fits
-none_large at v out e = go (leb v max_number) e
-  where
-    go : (t : Bool) → 0 ≡ cond t (length (written_number v)) 0
-        → (0 ≡ cond (t && leb (at + length (written_number v)) (length out)) (at + length (written_number v)) 0)
-        × (out ≡ cond (t && leb (at + length (written_number v)) (length out)) (sets out at (written_number v)) out)
-    go true q = absurd (omega (arith, groups_count 2 v))
-    go false q = (refl, refl)
+-- the answer and the stores of a number, n bytes long, in a buffer
+module _ (at v : ℕ) (out : List ℕ) where
+  abbrev pub Answers : Option ℕ → List ℕ → Type 0
+  Answers answer stored = (answer ≡ unless_zero (written_past at v (length out))) × (stored ≡ number_written at v out)
 
-pub none_room : (at v : ℕ) (out : List ℕ) → v ≤ max_number → length out < at + length (written_number v)
-    → (0 ≡ written_past at v (length out)) × (out ≡ number_written at v out)
-unfolding written_past number_written number_fits
-none_room at v out h l = (rw (le-leb _ _ h, lt-leb _ _ l), rw (le-leb _ _ h, lt-leb _ _ l))
+  pub none_large : max_number < v → Answers None out
+  unfolding written_past number_written number_fits
+  none_large h = (rw (lt-leb _ _ h), rw (lt-leb _ _ h))
+
+  pub none_room : v ≤ max_number → length out < at + length (written_number v) → Answers None out
+  unfolding written_past number_written number_fits
+  none_room h l = (rw (le-leb _ _ h, lt-leb _ _ l), rw (le-leb _ _ h, lt-leb _ _ l))
+
+  pub all_stored : v ≤ max_number → (n : ℕ) → n ≡ length (written_number v) → at + n ≤ length out
+      → (stored : List ℕ) → stored ≡ written_number v → Answers (Some (at + n)) (put_mid at (at + n - at) out stored)
+  all_stored h n e room stored s =
+      let fits : at + length (written_number v) ≤ length out = omega arith in
+      let k : at + n - at ≡ length (written_number v) = omega arith in (
+        rw e (sym (past_some at v h out fits)),
+        rw (k, s) (ap (λ (l : List ℕ). take at out ++ (written_number v ++ l)) (drop-drop (length (written_number v)) at out)
+            ∙ sym (append_assoc (take at out) (written_number v) (drop (at + length (written_number v)) out))
+            ∙ sym (sets-eq (written_number v) out at fits)
+            ∙ sym (is_written at v h out fits)),
+      )

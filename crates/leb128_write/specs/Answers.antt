@@ -1,5 +1,5 @@
 -- The answers of writing one number, and of asking how many bytes it takes.
-use Rattle.std.specs.Prelude.{ℕ, ◌+◌, List, Bool, cond, ◌&&◌, leb, length}
+use Rattle.std.specs.Prelude.{ℕ, zero, suc, ◌+◌, List, Bool, cond, ◌&&◌, Option, Some, None, leb, length}
 use Rattle.std.proofs.lemmas.List.Edits.{sets}
 use Rattle.leb128.specs.Number.{max_number}
 use Rattle.leb128_write.specs.Written.{written_number}
@@ -19,3 +19,8 @@ written_past at v n = cond (number_fits at v n) (at + length (written_number v))
 -- what the lent buffer holds afterwards
 unfoldable pub number_written : ℕ → ℕ → List ℕ → List ℕ
 number_written at v out = cond (number_fits at v (length out)) (sets out at (written_number v)) out
+
+-- the code's answers: a length is at least 1 and a written place is past a byte, so that 0 is none
+abbrev pub unless_zero : ℕ → Option ℕ
+unless_zero zero = None
+unless_zero (suc n) = Some (suc n)

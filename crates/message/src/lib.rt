@@ -7,9 +7,10 @@ ghost use Rattle.encode.specs.Padding.{rate};
 ghost use Rattle.message.specs.Message.{MessageAbsorbed};
 
 use encode::RATE;
-use sponge::{absorb, finish};
+use sponge::Sponge;
 
 // The blocks of a padded message whose pieces have these lengths, with no sum that could wrap.
+#[tactic(auto, using(crate::proofs::Blocks::blocks_joined))]
 fn block_count(first: usize, second: usize, last: usize) -> usize
     ensures { result ≡ (first + second + last) / rate + 1 }
 {
@@ -17,19 +18,20 @@ fn block_count(first: usize, second: usize, last: usize) -> usize
     first / RATE + second / RATE + last / RATE + ends / RATE + 1
 }
 
-// Lanes that stand at position 0 take the message and the padding; the permutations that took. Output starts at position 0.
+// A sponge that stands at position 0 takes the message and the padding; the permutations that took. Output starts at position 0.
+// The pieces are three parameters: as one slice of slices the callers' contracts would join lists of lists, and the count's sum could wrap.
 pub fn absorb_message(
-    lanes: &mut [u64; 25],
+    sponge: &mut Sponge,
     suffix: u8,
     first: &[u8],
     second: &[u8],
     last: &[u8],
 ) -> usize
-    ensures { MessageAbsorbed suffix lanes.old ((first.now ++ second.now) ++ last.now) lanes.new result }
+    ensures { MessageAbsorbed suffix sponge.old ((first.now ++ second.now) ++ last.now) sponge.new result }
 {
-    let middle = absorb(lanes, 0, first);
-    let late = absorb(lanes, middle, second);
-    let end = absorb(lanes, late, last);
-    finish(lanes, end, suffix);
+    sponge.absorb(first);
+    sponge.absorb(second);
+    sponge.absorb(last);
+    sponge.finish(suffix);
     block_count(first.len(), second.len(), last.len())
 }

@@ -1,8 +1,10 @@
 -- Laws of a number read by the old rule, from the answer of the present rule: it is kept, but where it failed at a byte of 0.
-use mathlib.Core.Path.{◌≡◌, refl, sym, subst, ◌∙◌}
+use mathlib.Core.Path.{◌≡◌, refl, subst, ◌∙◌}
+use Rattle.std.specs.Prelude.{Result, Ok, Err}
 use mathlib.Core.Logic.{inl, inr}
 use mathlib.Core.List.{List, [], ◌∷◌}
-use mathlib.Core.Bool.{true, false}
+use mathlib.Core.Bool.{Bool, true, false}
+use Rattle.std.proofs.Common.{ltb, ltb-true, ltb-false}
 use Prim.Native.Nat.{ℕ, zero, suc, ◌+◌, ◌*◌, ◌-◌, ◌%◌, ◌≤◌, ◌<◌}
 use native.Mathlib.Omega.{arith}
 use lib.ListN.{length, get_or, drop, length-drop}
@@ -11,7 +13,7 @@ use Rattle.leb128.specs.Number.{Parsed, value, bad, number}
 use Rattle.leb128.specs.Answers.{ReadsNumber}
 use Rattle.leb128.specs.Laws.Failing.{Fails, groups_fail}
 use Rattle.leb128.specs.declared.Number.{Number}
-use Rattle.leb128.specs.declared.Number.TheVariants.{Value, Bad}
+use Rattle.answers.specs.declared.Malformed.{Malformed}
 use Rattle.old_number.specs.OldNumber.{old_number}
 use Rattle.old_number.specs.Laws.{low_groups, zero_there, zero_there_lem, none_there, other_there, as_old, fails_after, as_old_lem}
 
@@ -27,47 +29,50 @@ low_groups_lem (suc (suc zero)) (b ∷ []) h l e = refl
 low_groups_lem (suc (suc zero)) (b ∷ c ∷ t) h l e = let z : c % 128 + 128 * 0 ≡ c % 128 = omega arith in rw z
 low_groups_lem (suc (suc (suc k))) t h l e = absurd (omega arith)
 
-value_kept : (at : ℕ) (t : List ℕ) (p : Parsed) (r : Number) (v n : ℕ) → ReadsNumber p r → r ≡ Value v n → ReadsNumber (as_old at t p) r
-value_kept at t (value w m rest) r v n h e = h
-value_kept at t (bad place) r v n h e =
-    let z : ◌≡◌ {A = Number} (Bad place) (Value v n) = sym h.answer ∙ e in
-    let q : ◌≡◌ {A = ℕ} 0 1 = cc in
-    absurd (omega arith)
+value_kept : (at : ℕ) (t : List ℕ) (p : Parsed) (n : Number) → ReadsNumber p (Ok n) → ReadsNumber (as_old at t p) (Ok n)
+value_kept at t (value w m rest) n h = h
+value_kept at t (bad place) n h = let e = h.answer in absurd cc
 
-pub bad_known : (p : Parsed) (r : Number) (place : ℕ) → ReadsNumber p r → r ≡ Bad place → p ≡ bad place
-bad_known (value w m rest) r place h e = let z : ◌≡◌ {A = Number} (Value w m) (Bad place) = sym h.answer ∙ e in cc
-bad_known (bad other) r place h e = let z : ◌≡◌ {A = Number} (Bad other) (Bad place) = sym h.answer ∙ e in cc
+pub bad_known : (p : Parsed) (e : Malformed) → ReadsNumber p (Err e) → p ≡ bad e.place
+bad_known (value w m rest) e h = let q = h.answer in absurd cc
+bad_known (bad place) e h = let q = h.answer in cc
 
 -- the present rule's answer at a place of s
-module _ (at : ℕ) (s : List ℕ) (r : Number) (h : ReadsNumber (number at (drop at s)) r) where
-  old_is : (q : Number) → ReadsNumber (as_old at (drop at s) (number at (drop at s))) q → ReadsNumber (old_number at (drop at s)) q
+module _ (at : ℕ) (s : List ℕ) where
+  old_is : (q : Result Number Malformed) → ReadsNumber (as_old at (drop at s) (number at (drop at s))) q → ReadsNumber (old_number at (drop at s)) q
   old_is q = subst (λ (p : Parsed). ReadsNumber p q) (as_old_lem true 2 at (drop at s))
 
-  pub old_value : (v n : ℕ) → r ≡ Value v n → ReadsNumber (old_number at (drop at s)) r
-  old_value v n e = old_is r (value_kept at (drop at s) (number at (drop at s)) r v n h e)
+  pub old_value : (n : Number) → ReadsNumber (number at (drop at s)) (Ok n) → ReadsNumber (old_number at (drop at s)) (Ok n)
+  old_value n h = old_is (Ok n) (value_kept at (drop at s) (number at (drop at s)) n h)
 
   -- it failed
-  module _ (place : ℕ) (e : r ≡ Bad place) where
+  module _ (e : Malformed) (h : ReadsNumber (number at (drop at s)) (Err e)) where
+    abbrev place : ℕ
+    place = e.place
+
     failed : number at (drop at s) ≡ bad place
-    failed = bad_known (number at (drop at s)) r place h e
+    failed = bad_known (number at (drop at s)) e h
 
     fails : Fails true 2 at (drop at s) (bad place)
     fails = rw failed at (groups_fail true 2 at (drop at s))
 
     -- at a byte that is missing, or is not 0
-    bad_kept : zero_there (place - at) (drop at s) ≡ false → ReadsNumber (old_number at (drop at s)) (Bad place)
-    bad_kept z = old_is (Bad place) (rw (failed, z) (record { answer = refl; values = refl }))
-
-    pub old_missing : length s ≤ place → ReadsNumber (old_number at (drop at s)) (Bad place)
-    old_missing l = bad_kept (none_there (place - at) (drop at s) (omega (arith, length-drop at s)))
+    bad_kept : zero_there (place - at) (drop at s) ≡ false → ReadsNumber (old_number at (drop at s)) (Err e)
+    bad_kept z = old_is (Err e) (rw (failed, z) (record { answer = refl; values = refl }))
 
     byte_there : get_or (drop at s) (place - at) 0 ≡ get_or s place 0
     byte_there =
         let here : at + (place - at) ≡ place = omega (arith, fails_after true 2 at (drop at s) place fails) in
         get_or-drop at s (place - at) 0 ∙ rw here
 
-    pub old_over : 0 < get_or s place 0 → ReadsNumber (old_number at (drop at s)) (Bad place)
-    old_over l = bad_kept (other_there (place - at) (drop at s) (rw byte_there l))
+    pub old_over : (place < length s → get_or s place 0 ≡ 0 → ⊥) → ReadsNumber (old_number at (drop at s)) (Err e)
+    old_over some = go (ltb place (length s)) refl
+      where
+        go : (t : Bool) → ltb place (length s) ≡ t → ReadsNumber (old_number at (drop at s)) (Err e)
+        go true q =
+            let there : 0 < get_or s place 0 = omega (arith, some (ltb-true place (length s) q)) in
+            bad_kept (other_there (place - at) (drop at s) (rw byte_there there))
+        go false q = bad_kept (none_there (place - at) (drop at s) (omega (arith, length-drop at s, ltb-false place (length s) q)))
 
     -- at a byte of 0, which is the number's second or third group
     module _ (l : place < length s) (z : get_or s place 0 ≡ 0) where
@@ -83,7 +88,7 @@ module _ (at : ℕ) (s : List ℕ) (r : Number) (h : ReadsNumber (number at (dro
           go (inr (inr f)) = (f.after, f.within)
 
       pub old_empty : (first second : ℕ) → first ≡ get_or s at 0 % 128 → second ≡ get_or s (at + 1) 0 % 128
-          → ReadsNumber (old_number at (drop at s)) (Value (first + 128 * second) (place + 1))
+          → ReadsNumber (old_number at (drop at s)) (Ok (record { value = first + 128 * second; next = place + 1 }))
       old_empty first second a b =
           let there : get_or (drop at s) (place - at) 0 ≡ 0 = byte_there ∙ z in
           let k : place - at < length (drop at s) = omega (arith, length-drop at s, empty_group) in

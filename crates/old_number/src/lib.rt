@@ -6,40 +6,26 @@ ghost use Rattle.std.specs.Prelude.{◌≡◌, ◌%◌, get_or, drop};
 ghost use Rattle.leb128.specs.Answers.{ReadsNumber};
 ghost use Rattle.old_number.specs.OldNumber.{old_number};
 
+use answers::Malformed;
 use leb128::Number;
-
-fn wide(x: u8) -> u32
-    ensures { result ≡ x }
-{
-    x as u32
-}
 
 // The seven bits of the group at a place, 0 where no byte is there.
 fn group_at(bytes: &[u8], at: usize) -> u32
     ensures { result ≡ get_or bytes.now at 0 % 128 }
 {
-    if bytes.len() <= at {
-        return 0;
-    }
-    wide(bytes[at]) % 128
+    u32::from(bytes.get(at).copied().unwrap_or(0)) % 128
 }
 
 // The number at a place by the old rule: that of the present rule or, where its last group is empty and one too many, what the groups before it make.
-pub fn old_number_at(bytes: &[u8], at: usize) -> Number
+pub fn old_number_at(bytes: &[u8], at: usize) -> Result<Number, Malformed>
     ensures { ReadsNumber (old_number at (drop at bytes.now)) result }
 {
-    let read = leb128::number_at(bytes, at);
-    let Number::Bad(place) = read else {
-        return read;
-    };
-    if bytes.len() <= place {
-        return read; // a byte is missing
-    }
-    if 0 < bytes[place] {
-        return read; // a fourth group is promised
-    }
-    Number::Value {
-        value: group_at(bytes, at) + 128 * group_at(bytes, at + 1), // the third group, if there is one, is empty
-        next: place + 1,
+    match leb128::number_at(bytes, at) {
+        Ok(number) => Ok(number),
+        Err(Malformed { place }) if bytes.get(place) == Some(&0) => Ok(Number {
+            value: group_at(bytes, at) + 128 * group_at(bytes, at + 1), // the third group, if there is one, is empty
+            next: place + 1,
+        }),
+        Err(malformed) => Err(malformed), // a byte is missing, or a fourth group is promised
     }
 }

@@ -3,7 +3,7 @@ use Rattle.std.specs.Prelude.{◌≡◌, take}
 use Rattle.std.proofs.Math.Path.{refl, sym, ap}
 use Rattle.std.proofs.Common.{◌∙◌, suc-add, lt-ltb, le-ltb, take_all, take_at, length-take-le}
 use mathlib.Core.List.{List, [], ◌++◌, append_assoc, append-nil}
-use Prim.Native.Nat.{ℕ, zero, suc, ◌+◌, ◌-◌, ◌*◌, ◌≤◌, ◌<◌}
+use Prim.Native.Nat.{ℕ, zero, suc, ◌+◌, ◌-◌, ◌*◌, ◌≤◌, ◌<◌, min}
 use Rattle.std.proofs.Math.Nat.{zero-add}
 use Rattle.std.proofs.Math.Decide.{dec_le}
 use native.Mathlib.Omega.{arith}
@@ -59,6 +59,26 @@ piece_count-more n h = elim (dec_le piece_bytes n) [
 pub piece_count-whole : (m : ℕ) → piece_count (m * piece_bytes) ≡ m
 unfolding piece_count
 piece_count-whole m = omega arith
+
+-- ---- places: the piece m begins after m whole ones
+
+pub place_within : (n m : ℕ) → m < piece_count n → m * piece_bytes < n
+unfolding piece_count
+place_within n m h = omega arith
+
+-- the place after a piece, which is cut where the request ends
+pub place_after : (n m : ℕ) → m * piece_bytes < n
+    → (min ((m + 1) * piece_bytes) n ≡ m * piece_bytes + cut (n - m * piece_bytes))
+    × (n - (m + 1) * piece_bytes ≡ n - (m * piece_bytes + cut (n - m * piece_bytes)))
+place_after n m h = elim (dec_le piece_bytes (n - m * piece_bytes)) [
+  | yes k ↦ let e = cut_large (n - m * piece_bytes) k in (omega arith, omega arith)
+  | no k ↦ let e = cut_small (n - m * piece_bytes) (omega arith) in (omega arith, omega arith)
+]
+
+-- after all pieces nothing is left
+pub place_end : (n m : ℕ) → piece_count n ≤ m → n ≤ m * piece_bytes
+unfolding piece_count
+place_end n m h = omega arith
 
 -- the first n bytes of a piece with others after it: what is cut from the piece, then the rest
 take_cut : (n : ℕ) (xs ys : List ℕ) → length xs ≡ piece_bytes → take n (xs ++ ys) ≡ take (cut n) xs ++ take (n - cut n) ys

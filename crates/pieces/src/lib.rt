@@ -9,23 +9,17 @@ ghost use Rattle.pieces.specs.Pieces.{piece_count, cut};
 pub const PIECE_BYTES: usize = 208;
 
 // The pieces that a request of this many bytes takes.
+#[tactic(auto, unfolding(crate::specs::Pieces::piece_count))]
 pub fn piece_count(bytes: usize) -> usize
     ensures { result ≡ piece_count bytes }
 {
-    if bytes == 0 {
-        0
-    } else {
-        (bytes - 1) / PIECE_BYTES + 1
-    }
+    bytes.div_ceil(PIECE_BYTES)
 }
 
 // The bytes of the next piece, where this many are left to give.
+#[tactic(auto, unfolding(crate::specs::Pieces::cut))]
 pub fn cut(left: usize) -> usize
     ensures { result ≡ cut left }
 {
-    if left < PIECE_BYTES {
-        left
-    } else {
-        PIECE_BYTES
-    }
+    left.min(PIECE_BYTES)
 }

@@ -8,13 +8,11 @@ use lib.Dec.{eqb}
 use borrow.Author.Tests.{eqb-true}
 use Rattle.answers.specs.Numbers.{done, malformed_plan, no_such_chute}
 use Rattle.answers.specs.Breaches.{no_place}
-use Rattle.plan_read.specs.Plan.{Plan, rows, refused, plan_of, plan_answer, row_at}
+use Rattle.plan_read.specs.Plan.{Plan, rows, refused, plan_of, row_at}
 use Rattle.plan_read.specs.declared.Row.{Row}
-use Rattle.plan.specs.Answers.{has_chute, row_found, no_chute_row, chute_row, chute_row_of}
-use Rattle.plan.specs.declared.ChuteRow.{ChuteRow}
-use Rattle.plan_pair.specs.Pair.{location_in, no_location, malformed_in, plans_refusal, location_found, plans_refused, location, location_of}
+use Rattle.plan.specs.Answers.{ChuteRow, has_chute, row_found, no_chute_row, chute_row, chute_row_of}
+use Rattle.plan_pair.specs.Pair.{Location, location_in, no_location, malformed_in, plans_refusal, location_found, plans_refused, location, location_of}
 use Rattle.plan_pair.specs.declared.Source.TheVariants.{Site, House}
-use Rattle.plan_pair.specs.declared.RowLocation.{RowLocation}
 use Rattle.place_theorems.specs.Without.{row_without, row_by, Located, location_without, found_by, nowhere_by, location_by}
 
 -- a function of one of two values
@@ -26,7 +24,7 @@ pub row_without_lem : (s : List ℕ) (chute : ℕ) → row_without (chute_row_of
 unfolding chute_row_of
 row_without_lem s chute = go (plan_of s)
   where
-    go : (p : Plan) → row_without (chute_row chute (plan_answer chute p)) ≡ row_by chute p
+    go : (p : Plan) → row_without (chute_row chute p) ≡ row_by chute p
     go (rows l) = of_cond row_without (has_chute (length l) chute) (row_found (row_at chute l)) (no_chute_row no_such_chute no_place)
     go (refused n place) = refl
 
@@ -41,7 +39,7 @@ module _ (s h : ChuteRow) where
       go true false e = ap nowhere_by (sym (eqb-true n malformed_plan e))
       go false u e = refl
 
-  found_without : (t u : Bool) (a b c : RowLocation)
+  found_without : (t u : Bool) (a b c : Location)
       → location_without (cond t a (cond u b c)) ≡ cond t (location_without a) (cond u (location_without b) (location_without c))
   found_without true u a b c = refl
   found_without false true a b c = refl

@@ -6,15 +6,14 @@ use mathlib.Core.Bool.{Bool, true, false, cond}
 use Prim.Native.Nat.{ℕ}
 use native.Mathlib.Omega.{arith}
 use lib.ListN.{length}
+use Rattle.std.specs.Prelude.{None}
 use lib.Dec.{eqb}
 use Rattle.answers.specs.Numbers.{done, input_too_long, malformed_plan, no_such_chute}
 use Rattle.answers.specs.Breaches.{no_place}
-use Rattle.plan_read.specs.Plan.{Plan, rows, refused, plan_of, plan_answer, row_at}
-use Rattle.plan.specs.Answers.{has_chute, row_found, no_chute_row, summary, summary_of, chute_row, chute_row_of}
-use Rattle.plan.specs.declared.ChuteRow.{ChuteRow}
-use Rattle.plan_pair.specs.Pair.{location_in, no_location, malformed_in, plan_refusal, smaller_of, location, location_of}
-use Rattle.plan_pair.specs.declared.Source.TheVariants.{Neither, Site, House}
-use Rattle.plan_pair.specs.declared.RowLocation.{RowLocation}
+use Rattle.plan_read.specs.Plan.{Plan, rows, refused, plan_of, row_at}
+use Rattle.plan.specs.Answers.{ChuteRow, has_chute, row_found, no_chute_row, summary, summary_of, chute_row, chute_row_of}
+use Rattle.plan_pair.specs.Pair.{Location, location_in, no_location, malformed_in, plan_refusal, smaller_of, location, location_of}
+use Rattle.plan_pair.specs.declared.Source.TheVariants.{Site, House}
 use Rattle.place_theorems.specs.PlaceTheorems.{PairPlaces}
 use Rattle.place_theorems.proofs.Plans.{Placed, plan_placed, read_place}
 
@@ -33,7 +32,7 @@ row_number s chute = go (plan_of s) (plan_placed s)
     pick true r e = found refl e
     pick false r e = missing refl refl
 
-    go : (p : Plan) → Placed (length s) p → RowNumber (summary (plan_answer 0 p)).number (chute_row chute (plan_answer chute p)).number
+    go : (p : Plan) → Placed (length s) p → RowNumber (summary p).number (chute_row chute p).number
     go (rows l) u = pick (has_chute (length l) chute) (row_found (row_at chute l)) refl
     go (refused n place) (inl u) = long u.0 u.0
     go (refused n place) (inr u) = bad u.0 u.0
@@ -47,23 +46,23 @@ row_place s chute = go (plan_of s)
     pick true r e = e
     pick false r e = refl
 
-    go : (p : Plan) → (chute_row chute (plan_answer chute p)).place ≡ (summary (plan_answer 0 p)).place
+    go : (p : Plan) → (chute_row chute p).place ≡ (summary p).place
     go (rows l) = pick (has_chute (length l) chute) (row_found (row_at chute l)) refl
     go (refused n place) = refl
 
 module _ (s h : ChuteRow) where
   -- the location, by the numbers of the two rows
-  abbrev by_numbers : ℕ → ℕ → RowLocation
+  abbrev by_numbers : ℕ → ℕ → Location
   by_numbers n m =
       let r = smaller_of (plan_refusal n) (plan_refusal m) in
       cond (eqb r done) (cond (eqb n done) (location_in Site s.row) (cond (eqb m done) (location_in House h.row) (no_location no_such_chute)))
       (cond (eqb r malformed_plan) (cond (eqb n malformed_plan) (malformed_in Site s.place) (malformed_in House h.place)) (no_location r))
 
   -- which plan it names, beside the numbers a and b of reading the two plans
-  data Named (a b : ℕ) (l : RowLocation) : Type 0 where
+  data Named (a b : ℕ) (l : Location) : Type 0 where
     site : a ≡ malformed_plan → (b ≡ input_too_long → ⊥) → l ≡ malformed_in Site s.place → Named a b l
     house : a ≡ done → b ≡ malformed_plan → l ≡ malformed_in House h.place → Named a b l
-    none : (l.number ≡ malformed_plan → ⊥) → l.malformed ≡ Neither → l.place ≡ no_place
+    none : (l.number ≡ malformed_plan → ⊥) → l.malformed ≡ None → l.place ≡ no_place
         → (a ≡ input_too_long) ⊎ ((b ≡ input_too_long) ⊎ ((a ≡ done) × (b ≡ done))) → Named a b l
 
   named : (a b n m : ℕ) → RowNumber a n → RowNumber b m → Named a b (by_numbers n m)
@@ -90,21 +89,21 @@ pair_places s h chute =
     go (location (chute_row_of s chute) (chute_row_of h chute))
     (named (chute_row_of s chute) (chute_row_of h chute) (summary_of s).number (summary_of h).number _ _ (row_number s chute) (row_number h chute))
   where
-    go : (l : RowLocation) → Named (chute_row_of s chute) (chute_row_of h chute) (summary_of s).number (summary_of h).number l → PairPlaces s h l
+    go : (l : Location) → Named (chute_row_of s chute) (chute_row_of h chute) (summary_of s).number (summary_of h).number l → PairPlaces s h l
     go l (site a b e) =
         record {
-          malformed = ((λ z. ((λ q. omega (arith, a, q)), (b, inl a))), (λ z. ap (λ (x : RowLocation). x.number) e));
-          site_first = λ z q. (ap (λ (x : RowLocation). x.malformed) e, ap (λ (x : RowLocation). x.place) e ∙ row_place s chute);
+          malformed = ((λ z. ((λ q. omega (arith, a, q)), (b, inl a))), (λ z. ap (λ (x : Location). x.number) e));
+          site_first = λ z q. (ap (λ (x : Location). x.malformed) e, ap (λ (x : Location). x.place) e ∙ row_place s chute);
           else_house = λ z q. absurd (q a);
-          neither = λ z. absurd (z (ap (λ (x : RowLocation). x.number) e));
+          neither = λ z. absurd (z (ap (λ (x : Location). x.number) e));
           within = rw (e, row_place s chute) (read_place s).within;
         }
     go l (house a b e) =
         record {
-          malformed = ((λ z. ((λ q. omega (arith, a, q)), ((λ q. omega (arith, b, q)), inr b))), (λ z. ap (λ (x : RowLocation). x.number) e));
+          malformed = ((λ z. ((λ q. omega (arith, a, q)), ((λ q. omega (arith, b, q)), inr b))), (λ z. ap (λ (x : Location). x.number) e));
           site_first = λ z q. absurd (omega (arith, a, q));
-          else_house = λ z q. (ap (λ (x : RowLocation). x.malformed) e, ap (λ (x : RowLocation). x.place) e ∙ row_place h chute);
-          neither = λ z. absurd (z (ap (λ (x : RowLocation). x.number) e));
+          else_house = λ z q. (ap (λ (x : Location). x.malformed) e, ap (λ (x : Location). x.place) e ∙ row_place h chute);
+          neither = λ z. absurd (z (ap (λ (x : Location). x.number) e));
           within = rw (e, row_place h chute) (read_place h).within;
         }
     go l (none n m place why) =

@@ -9,10 +9,10 @@ use Rattle.answers.specs.Numbers.{done, input_too_long, malformed_plan, no_such_
 use Rattle.answers.specs.Done.{if_done}
 use Rattle.answers.specs.Breaches.{no_place}
 use Rattle.plan_read.specs.Limits.{max_plan}
-use Rattle.plan_read.specs.Plan.{Plan, rows, refused, plan_of, plan_answer, plan_number, row_answer}
+use Rattle.plan_read.specs.Plan.{Plan, rows, refused, plan_of, plan_number, row_answer}
 use Rattle.plan_read.specs.declared.Row.{Row}
-use Rattle.plan_read.specs.declared.RowRead.{RowRead}
-use Rattle.plan_read.specs.declared.RowRead.TheVariants.{Found, NotRow}
+use Rattle.std.specs.Prelude.{Result, Ok, Err}
+use Rattle.answers.specs.declared.Malformed.{Malformed}
 use Rattle.plan.specs.Answers.{summary, summary_of, found_destination, no_destination, lookup_of, lookup_in}
 use Rattle.plan.specs.declared.Lookup.{Lookup}
 use Rattle.plan_walk.specs.Walk.{first_row_at, stay, asked, walk_start, walk_step}
@@ -110,14 +110,14 @@ one_place =
       hall_write = λ outer kinds values out after r w. ap (λ (a : PlanWritten). a.place) w.answer;
     }
 
-summary_before : (p : Plan) → summary_without (summary (plan_answer 0 p)) ≡ summary_by p
+summary_before : (p : Plan) → summary_without (summary p) ≡ summary_by p
 summary_before (rows l) = refl
 summary_before (refused n place) = refl
 
-step_before : (c : Cursor) (n : ℕ) (r : RowRead)
+step_before : (c : Cursor) (n : ℕ) (r : Result Row Malformed)
     → walk_without (if_done n (asked c r) (stay c.number c.place c)) ≡ if_done n (asked_by (cursor_without c) r) (c.number, (0, cursor_without c))
-step_before c zero (Found row) = refl
-step_before c zero (NotRow place) = refl
+step_before c zero (Ok row) = refl
+step_before c zero (Err e) = refl
 step_before c (suc n) r = refl
 
 without_places : WithoutPlaces

@@ -11,7 +11,7 @@ use Rattle.answers.specs.Numbers.{input_too_long, malformed_plan}
 use Rattle.answers.specs.Breaches.{no_place}
 use Rattle.leb128.specs.Number.{Parsed, value, bad}
 use Rattle.plan_read.specs.Limits.{max_plan, max_rows}
-use Rattle.plan_read.specs.Plan.{Plan, rows, refused, malformed, cons_row, after_number, plan_number, row, rows_by, plan_in_by, plan_by, plan_of, plan_answer}
+use Rattle.plan_read.specs.Plan.{Plan, rows, refused, malformed, cons_row, after_number, plan_number, row, rows_by, plan_in_by, plan_by, plan_of}
 use Rattle.plan_read.specs.declared.Row.{Row}
 use Rattle.plan.specs.Answers.{summary, summary_of}
 use Rattle.place_theorems.specs.PlaceTheorems.{PlaceIn}
@@ -78,6 +78,6 @@ pub read_place : (s : List ℕ) → PlaceIn s (summary_of s).number (summary_of 
 unfolding summary_of
 read_place s = go (plan_of s) (plan_placed s)
   where
-    go : (p : Plan) → Placed (length s) p → PlaceIn s (summary (plan_answer 0 p)).number (summary (plan_answer 0 p)).place
+    go : (p : Plan) → Placed (length s) p → PlaceIn s (summary p).number (summary p).place
     go (rows l) u = record { within = omega arith; malformed_alone = λ z. refl }
     go (refused n place) u = refused_in s n place u

@@ -1,15 +1,14 @@
 -- What holds of the places that answers on plans tell (docs/RULES.md, 'Places'), by the answers that the entries promise.
-use Rattle.std.specs.Prelude.{ℕ, ◌+◌, ◌≤◌, ◌<◌, ◌≡◌, ◌⊎◌, ◌↔◌, List, [], length, get_or, drop}
+use Rattle.std.specs.Prelude.{ℕ, ◌+◌, ◌≤◌, ◌<◌, ◌≡◌, ◌⊎◌, ◌↔◌, List, [], length, get_or, drop, Option, Some, None}
 use Rattle.std.specs.Borrow.{Bor}
 use Rattle.answers.specs.Numbers.{input_too_long, malformed_plan}
 use Rattle.answers.specs.Breaches.{no_place}
 use Rattle.leb128.specs.Number.{bad}
 use Rattle.plan_read.specs.Plan.{plan_number, plan_of}
 use Rattle.plan.specs.Answers.{summary_of, chute_row_of, lookup_of}
-use Rattle.plan_pair.specs.Pair.{location_of}
+use Rattle.plan_pair.specs.Pair.{Location, location_of}
 use Rattle.plan_pair.specs.declared.Source.{Source}
-use Rattle.plan_pair.specs.declared.Source.TheVariants.{Neither, Site, House}
-use Rattle.plan_pair.specs.declared.RowLocation.{RowLocation}
+use Rattle.plan_pair.specs.declared.Source.TheVariants.{Site, House}
 use Rattle.plan_walk.specs.Walk.{walk_start, walk_step}
 use Rattle.plan_walk.specs.declared.Cursor.{Cursor}
 use Rattle.plan_walker.specs.Walker.{asks}
@@ -58,22 +57,22 @@ pub record PlaceIn (s : List ℕ) (number place : ℕ) : Type 0 where
   pub malformed_alone : (number ≡ malformed_plan → ⊥) → place ≡ no_place
 
 -- the plan that an answer on two plans names
-abbrev pub named_plan : Source → List ℕ → List ℕ → List ℕ
-named_plan Neither site house = []
-named_plan Site site house = site
-named_plan House site house = house
+abbrev pub named_plan : Option Source → List ℕ → List ℕ → List ℕ
+named_plan None site house = []
+named_plan (Some Site) site house = site
+named_plan (Some House) site house = house
 
 -- Of two plans with the answer a: 9 exactly where neither is too long and one is malformed; then the first malformed one is named, with its own place, which is
 -- not past that plan's length.
-pub record PairPlaces (site house : List ℕ) (a : RowLocation) : Type 0 where
+pub record PairPlaces (site house : List ℕ) (a : Location) : Type 0 where
   pub malformed : (a.number ≡ malformed_plan)
       ↔ (((summary_of site).number ≡ input_too_long → ⊥)
       × (((summary_of house).number ≡ input_too_long → ⊥)
       × (((summary_of site).number ≡ malformed_plan) ⊎ ((summary_of house).number ≡ malformed_plan))))
-  pub site_first : a.number ≡ malformed_plan → (summary_of site).number ≡ malformed_plan → (a.malformed ≡ Site) × (a.place ≡ (summary_of site).place)
+  pub site_first : a.number ≡ malformed_plan → (summary_of site).number ≡ malformed_plan → (a.malformed ≡ Some Site) × (a.place ≡ (summary_of site).place)
   pub else_house : a.number ≡ malformed_plan → ((summary_of site).number ≡ malformed_plan → ⊥)
-      → (a.malformed ≡ House) × (a.place ≡ (summary_of house).place)
-  pub neither : (a.number ≡ malformed_plan → ⊥) → (a.malformed ≡ Neither) × (a.place ≡ no_place)
+      → (a.malformed ≡ Some House) × (a.place ≡ (summary_of house).place)
+  pub neither : (a.number ≡ malformed_plan → ⊥) → (a.malformed ≡ None) × (a.place ≡ no_place)
   pub within : a.place ≤ length (named_plan a.malformed site house)
 
 -- Every answer on one plan tells the place that reading it tells; what is written has none. (Migration reads by another rule: migration_theorems.)

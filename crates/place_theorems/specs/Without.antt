@@ -1,20 +1,17 @@
 -- The answers on plans without their place: the number, then the other fields. And what they are by what reading a plan whole finds, its place left out.
-use Rattle.std.specs.Prelude.{ℕ, zero, suc, ◌-◌, List, cond, ltb, eqb, length, get_or, drop}
+use Rattle.std.specs.Prelude.{ℕ, zero, suc, ◌-◌, List, cond, ltb, eqb, length, get_or, drop, Option, Some, None, Result, Ok, Err}
 use Rattle.answers.specs.Numbers.{done, input_too_long, malformed_plan, no_such_chute}
 use Rattle.answers.specs.Done.{if_done}
 use Rattle.plan_read.specs.Limits.{max_plan}
 use Rattle.plan_read.specs.Plan.{Plan, rows, refused, no_row, row_at, row_answer, plan_number, plan_of}
 use Rattle.plan_read.specs.declared.Row.{Row}
-use Rattle.plan_read.specs.declared.RowRead.{RowRead}
-use Rattle.plan_read.specs.declared.RowRead.TheVariants.{Found, NotRow}
-use Rattle.plan.specs.Answers.{has_chute}
+use Rattle.answers.specs.declared.Malformed.{Malformed}
+use Rattle.plan.specs.Answers.{ChuteRow, has_chute}
 use Rattle.plan.specs.declared.PlanSummary.{PlanSummary}
-use Rattle.plan.specs.declared.ChuteRow.{ChuteRow}
 use Rattle.plan.specs.declared.Lookup.{Lookup}
-use Rattle.plan_pair.specs.Pair.{plan_refusal, smaller_of}
+use Rattle.plan_pair.specs.Pair.{Location, plan_refusal, smaller_of}
 use Rattle.plan_pair.specs.declared.Source.{Source}
-use Rattle.plan_pair.specs.declared.Source.TheVariants.{Neither, Site, House}
-use Rattle.plan_pair.specs.declared.RowLocation.{RowLocation}
+use Rattle.plan_pair.specs.declared.Source.TheVariants.{Site, House}
 use Rattle.plan_walk.specs.Walk.{first_row_at}
 use Rattle.plan_walk.specs.declared.Cursor.{Cursor}
 use Rattle.plan_walk.specs.declared.WalkAnswer.{WalkAnswer}
@@ -60,16 +57,16 @@ hall_lookup_by chute (Halls.refused n place) = (n, 0)
 
 -- where a chute's row is in two plans: the plan, the row's start and its length
 abbrev pub Located : Type 0
-Located = ℕ × (Source × (ℕ × ℕ))
+Located = ℕ × (Option Source × (ℕ × ℕ))
 
-abbrev pub location_without : RowLocation → Located
+abbrev pub location_without : Location → Located
 location_without a = (a.number, (a.source, (a.start, a.length)))
 
 abbrev pub found_by : Source → Row → Located
-found_by source r = (done, (source, (r.start, r.end - r.start)))
+found_by source r = (done, (Some source, (r.start, r.end - r.start)))
 
 abbrev pub nowhere_by : ℕ → Located
-nowhere_by n = (n, (Neither, (0, 0)))
+nowhere_by n = (n, (None, (0, 0)))
 
 abbrev pub location_by : (ℕ × Row) → (ℕ × Row) → Located
 location_by site house =
@@ -88,9 +85,9 @@ start_by s = let n = (summary_by (plan_of s)).0 in (n, if_done n (first_row_at s
 abbrev pub walk_without : WalkAnswer → ℕ × (ℕ × (ℕ × ℕ))
 walk_without a = (a.number, (a.destination, cursor_without a.next))
 
-abbrev pub asked_by : (ℕ × ℕ) → RowRead → ℕ × (ℕ × (ℕ × ℕ))
-asked_by c (Found row) = (done, (row.destination, (done, row.end)))
-asked_by c (NotRow place) = (no_such_chute, (0, c))
+abbrev pub asked_by : (ℕ × ℕ) → Result Row Malformed → ℕ × (ℕ × (ℕ × ℕ))
+asked_by c (Ok row) = (done, (row.destination, (done, row.end)))
+asked_by c (Err e) = (no_such_chute, (0, c))
 
 abbrev pub step_by : List ℕ → (ℕ × ℕ) → ℕ × (ℕ × (ℕ × ℕ))
 step_by s c = if_done c.0 (asked_by c (row_answer c.1 (plan_number c.1 (drop c.1 s)))) (c.0, (0, c))

@@ -10,7 +10,7 @@ use Rattle.std.proofs.lemmas.List.{length-map}
 use borrow.Author.Tests.{le-leb, lt-leb, leb-true, ltb-true, ltb-false}
 use Rattle.answers.specs.Numbers.{done, no_such_chute}
 use Rattle.answers.specs.Breaches.{no_place}
-use Rattle.plan_read.specs.Plan.{Plan, rows, refused, plan_of, plan_answer, no_row, row_destinations}
+use Rattle.plan_read.specs.Plan.{Plan, rows, refused, plan_of, no_row, row_destinations}
 use Rattle.plan_read.specs.Places.{RowIn}
 use Rattle.plan_read.specs.Laws.Rows.{RowsIn, plan_in_lem}
 use Rattle.plan_read.specs.Laws.Refusals.{Numbered, plan_numbered}
@@ -96,8 +96,8 @@ found_in s chute z = go chute (plan_of s) (plan_in_lem s) (plan_numbered s) z
     pick n c r true h i z = i (has_chute_lem n (suc c) h).1
     pick n c r false h i z = absurd (omega arith)
 
-    go : (chute : ℕ) (p : Plan) → RowsIn s p → Numbered p → (chute_row chute (plan_answer chute p)).number ≡ done
-        → RowIn s (chute_row chute (plan_answer chute p)).row
+    go : (chute : ℕ) (p : Plan) → RowsIn s p → Numbered p → (chute_row chute p).number ≡ done
+        → RowIn s (chute_row chute p).row
     go zero (rows l) a u z = absurd (omega arith)
     go (suc c) (rows l) a u z = pick (length l) c (get_or l c no_row) (has_chute (length l) (suc c)) refl (λ h. a c (omega arith)) z
     go chute (refused n place) a u z = absurd (omega arith)

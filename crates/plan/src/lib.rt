@@ -2,11 +2,53 @@
 #![tactic(auto)]
 
 ghost use Rattle.std.specs.Prelude.{◌≡◌};
-ghost use Rattle.plan.specs.Answers.{summary_of, has_chute, no_chute_row, chute_row_of, lookup_of};
+ghost use Rattle.plan.specs.Answers.{
+  summary_from,
+  summary_of,
+  has_chute,
+  chute_row_from,
+  chute_row_of,
+  lookup_from,
+  lookup_of,
+};
 
-use plan_read::{PlanRead, Row};
+use answers::PlanRefusal;
+use plan_read::Row;
 
-// The answer of reading a plan: 0 and the number of rows, or the refusal's number and, with 9, the place at which the plan is malformed.
+// The number of a plan's rows.
+#[tactic(auto, using(crate::proofs::Asked::summary_refused, crate::proofs::Asked::summary_counted))]
+pub fn read_plan(plan: &[u8]) -> Result<u32, PlanRefusal>
+    ensures { summary_from result ≡ summary_of plan.now }
+{
+    Ok(plan_read::read_whole(plan, 0)?.count)
+}
+
+// Whether a plan of `count` rows has a chute: chutes count from 1.
+pub fn has_chute(count: u32, chute: u64) -> bool
+    ensures { result ≡ has_chute count chute }
+{
+    (1..=u64::from(count)).contains(&chute)
+}
+
+// The row of one chute.
+#[tactic(auto, using(crate::proofs::Asked::row_refused, crate::proofs::Asked::row_found_lem))]
+pub fn row_of(plan: &[u8], chute: u64) -> Result<Row, PlanRefusal>
+    ensures { chute_row_from result ≡ chute_row_of plan.now chute }
+{
+    plan_read::read_whole(plan, chute)?
+        .row
+        .ok_or(PlanRefusal::NoSuchChute)
+}
+
+// The destination of one chute.
+#[tactic(auto, unfolding(crate::specs::Answers::lookup_of))]
+pub fn destination(plan: &[u8], chute: u64) -> Result<u32, PlanRefusal>
+    ensures { lookup_from result ≡ lookup_of plan.now chute }
+{
+    Ok(row_of(plan, chute)?.destination)
+}
+
+// The answer of reading a plan, as C has it: 0 and the number of rows, or the refusal's number and, with 9, the place at which the plan is malformed.
 #[repr(C)]
 #[derive(Clone, Copy)]
 pub struct PlanSummary {
@@ -15,74 +57,26 @@ pub struct PlanSummary {
     pub number: u8,
 }
 
-pub fn read_plan(plan: &[u8]) -> PlanSummary
-    ensures { result ≡ summary_of plan.now }
-{
-    match plan_read::read_whole(plan, 0) {
-        PlanRead::Rows { count, row: _ } => PlanSummary {
-            number: answers::DONE,
-            rows: count,
-            place: answers::NO_PLACE, // the plan is well-formed
-        },
-        PlanRead::Refused { number, place } => PlanSummary {
-            number,
-            rows: 0,
-            place,
-        },
-    }
-}
+impl From<Result<u32, PlanRefusal>> for PlanSummary {
+    ghost from_gives = { λ answer summary. summary ≡ summary_from answer };
 
-// Whether a plan of `count` rows has a chute: chutes count from 1.
-pub fn has_chute(count: u32, chute: u64) -> bool
-    ensures { result ≡ has_chute count chute }
-{
-    if chute == 0 {
-        return false;
-    }
-    chute <= count as u64
-}
-
-// The row of one chute: 0 and the row, or the refusal's number and, with 9, the place at which the plan is malformed; and a row that is all 0.
-#[derive(Clone, Copy)]
-pub struct ChuteRow {
-    pub number: u8,
-    pub row: Row,
-    pub place: usize,
-}
-
-fn no_row(number: u8, place: usize) -> ChuteRow
-    ensures { result ≡ no_chute_row number place }
-{
-    ChuteRow {
-        number,
-        row: Row {
-            destination: 0,
-            start: 0,
-            end: 0,
-        },
-        place,
-    }
-}
-
-pub fn row_of(plan: &[u8], chute: u64) -> ChuteRow
-    ensures { result ≡ chute_row_of plan.now chute }
-{
-    match plan_read::read_whole(plan, chute) {
-        PlanRead::Rows { count, row } => {
-            if has_chute(count, chute) {
-                return ChuteRow {
-                    number: answers::DONE,
-                    row,
-                    place: answers::NO_PLACE,
-                };
-            }
-            no_row(answers::NO_SUCH_CHUTE, answers::NO_PLACE)
+    fn from(answer: Result<u32, PlanRefusal>) -> PlanSummary {
+        match answer {
+            Ok(rows) => PlanSummary {
+                number: answers::DONE,
+                rows,
+                place: answers::NO_PLACE, // the plan is well-formed
+            },
+            Err(refusal) => PlanSummary {
+                number: refusal.number(),
+                rows: 0,
+                place: refusal.place(),
+            },
         }
-        PlanRead::Refused { number, place } => no_row(number, place),
     }
 }
 
-// The answer for one chute: 0 and the destination, or the refusal's number and, with 9, the place at which the plan is malformed.
+// The answer for one chute, as C has it: 0 and the destination, or the refusal's number and, with 9, the place at which the plan is malformed.
 #[repr(C)]
 #[derive(Clone, Copy)]
 pub struct Lookup {
@@ -91,13 +85,21 @@ pub struct Lookup {
     pub number: u8,
 }
 
-pub fn destination(plan: &[u8], chute: u64) -> Lookup
-    ensures { result ≡ lookup_of plan.now chute }
-{
-    let found = row_of(plan, chute);
-    Lookup {
-        destination: found.row.destination,
-        number: found.number,
-        place: found.place,
+impl From<Result<u32, PlanRefusal>> for Lookup {
+    ghost from_gives = { λ answer lookup. lookup ≡ lookup_from answer };
+
+    fn from(answer: Result<u32, PlanRefusal>) -> Lookup {
+        match answer {
+            Ok(destination) => Lookup {
+                number: answers::DONE,
+                destination,
+                place: answers::NO_PLACE, // the chute has a row
+            },
+            Err(refusal) => Lookup {
+                number: refusal.number(),
+                destination: 0,
+                place: refusal.place(),
+            },
+        }
     }
 }

@@ -16,10 +16,10 @@ use Rattle.plan_length.specs.Laws.{plan_length}
 use Rattle.plan_length.specs.declared.PlanLength.{PlanLength}
 
 -- the length of a plan of which n bytes are counted and these rows are to come
-abbrev pub length_from : ℕ → List ℕ → PlanLength
-length_from n l = cond (rows_allowed l) (length_is (n + length (written_rows l))) no_length
+abbrev pub length_after : ℕ → List ℕ → PlanLength
+length_after n l = cond (rows_allowed l) (length_is (n + length (written_rows l))) no_length
 
-pub length_start : (l : List ℕ) → length l ≤ max_rows → length_from (length (written_number (length l))) l ≡ length_of l
+pub length_start : (l : List ℕ) → length l ≤ max_rows → length_after (length (written_number (length l))) l ≡ length_of l
 unfolding length_of allowed
 length_start l h = rw (le-leb _ _ h, plan_length l)
 
@@ -41,15 +41,15 @@ module _ (i : ℕ) (l : List ℕ) (h : i < length l) where
   rows_allowed_lem = rw (here i l h)
 
   pub length_more : (n : ℕ) → get_or l i 0 ≤ max_destination
-      → length_from n (drop i l) ≡ length_from (n + length (written_number (get_or l i 0))) (drop (i + 1) l)
+      → length_after n (drop i l) ≡ length_after (n + length (written_number (get_or l i 0))) (drop (i + 1) l)
   length_more n m =
       let e : n + length (written_rows (drop i l)) ≡ n + length (written_number (get_or l i 0)) + length (written_rows (drop (i + 1) l)) = omega
       (arith, rows_length) in
       rw (e, rows_allowed_lem, le-leb _ _ m)
 
-  pub length_large : (n : ℕ) → max_destination < get_or l i 0 → length_from n (drop i l) ≡ no_length
+  pub length_large : (n : ℕ) → max_destination < get_or l i 0 → length_after n (drop i l) ≡ no_length
   length_large n m = rw (rows_allowed_lem, lt-leb _ _ m)
 
-pub length_end : (i n : ℕ) (l : List ℕ) → length l ≤ i → length_from n (drop i l) ≡ length_is n
+pub length_end : (i n : ℕ) (l : List ℕ) → length l ≤ i → length_after n (drop i l) ≡ length_is n
 unfolding rows_allowed written_rows
 length_end i n l h = let e : n + 0 ≡ n = omega arith in rw (drop_of_length-le l h, e)

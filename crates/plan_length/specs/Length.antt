@@ -1,8 +1,10 @@
 -- A plan written (docs/RULES.md, 'Chute plan'): the number of rows, then each row's destination, each in the fewest groups; and how long it is. Rows that
 -- break the plan's rules have no length, and are refused with 9.
-use Rattle.std.specs.Prelude.{ℕ, List, [], ◌∷◌, ◌++◌, Bool, true, cond, ◌&&◌, leb, length}
+use Rattle.std.specs.Prelude.{ℕ, List, [], ◌∷◌, ◌++◌, Bool, true, cond, ◌&&◌, Result, Ok, Err, leb, length}
 use Rattle.answers.specs.Numbers.{done, malformed_plan}
 use Rattle.answers.specs.Breaches.{no_place}
+use Rattle.answers.specs.Places.{plan_refusal_number, plan_refusal_place}
+use Rattle.answers.specs.declared.PlanRefusal.{PlanRefusal}
 use Rattle.leb128_write.specs.Written.{written_number}
 use Rattle.plan_read.specs.Limits.{max_rows, max_destination}
 use Rattle.plan_length.specs.declared.PlanLength.{PlanLength}
@@ -40,3 +42,12 @@ length_of l = cond (allowed l) (length_is (length (written_plan l))) no_length
 -- the answer of writing a plan, flat or of halls, by its number
 abbrev pub write_answer : ℕ → PlanWritten
 write_answer n = record { number = n; place = no_place }
+
+-- the code's answers as C has them
+abbrev pub length_from : Result ℕ PlanRefusal → PlanLength
+length_from (Ok n) = length_is n
+length_from (Err e) = refused_length (plan_refusal_number e) (plan_refusal_place e)
+
+abbrev pub written_from : Result (Unit {0}) PlanRefusal → PlanWritten
+written_from (Ok u) = write_answer done
+written_from (Err e) = record { number = plan_refusal_number e; place = plan_refusal_place e }

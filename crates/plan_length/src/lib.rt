@@ -2,9 +2,12 @@
 #![tactic(auto)]
 
 ghost use Rattle.std.specs.Prelude.{◌≡◌};
-ghost use Rattle.plan_length.specs.Length.{no_length, length_of, write_answer};
+ghost use Rattle.plan_length.specs.Length.{length_of, length_from, written_from};
 
-// How many bytes a plan takes: 0 and the length, or the refusal's number. The place is that of no breach, but where a plan to be migrated is malformed.
+use answers::{Malformed, PlanRefusal};
+
+// How many bytes a plan takes, as C has it: 0 and the length, or the refusal's number. The place is that of no breach, but where a plan to be migrated is
+// malformed.
 #[repr(C)]
 #[derive(Clone, Copy)]
 pub struct PlanLength {
@@ -13,7 +16,27 @@ pub struct PlanLength {
     pub number: u8,
 }
 
-// The answer of writing a plan, flat or of halls: 0, or the refusal's number. The place is that of no breach, but where a plan to be migrated is malformed.
+impl From<Result<usize, PlanRefusal>> for PlanLength {
+    ghost from_gives = { λ answer length. length ≡ length_from answer };
+
+    fn from(answer: Result<usize, PlanRefusal>) -> PlanLength {
+        match answer {
+            Ok(length) => PlanLength {
+                number: answers::DONE,
+                length,
+                place: answers::NO_PLACE, // a length has none
+            },
+            Err(refusal) => PlanLength {
+                number: refusal.number(),
+                length: 0,
+                place: refusal.place(),
+            },
+        }
+    }
+}
+
+// The answer of writing a plan, flat or of halls, as C has it: 0, or the refusal's number. The place is that of no breach, but where a plan to be migrated is
+// malformed.
 #[repr(C)]
 #[derive(Clone, Copy)]
 pub struct PlanWritten {
@@ -21,45 +44,38 @@ pub struct PlanWritten {
     pub number: u8,
 }
 
-pub fn write_answer(number: u8) -> PlanWritten
-    ensures { result ≡ write_answer number }
-{
-    PlanWritten {
-        place: answers::NO_PLACE, // what is written is not read
-        number,
+impl From<Result<(), PlanRefusal>> for PlanWritten {
+    ghost from_gives = { λ answer written. written ≡ written_from answer };
+
+    fn from(answer: Result<(), PlanRefusal>) -> PlanWritten {
+        match answer {
+            Ok(()) => PlanWritten {
+                place: answers::NO_PLACE,
+                number: answers::DONE,
+            },
+            Err(refusal) => PlanWritten {
+                place: refusal.place(), // what is written is not read: only a plan to be migrated has one
+                number: refusal.number(), // 5 or 9
+            },
+        }
     }
 }
 
-fn no_length() -> PlanLength
-    ensures { result ≡ no_length }
-{
-    PlanLength {
-        number: answers::MALFORMED_PLAN,
-        length: 0,
-        place: answers::NO_PLACE,
-    }
-}
+// What rows that break the rules are refused for, and a buffer that a plan does not fill: the place is that of no breach, as what is written is not read.
+pub const NOT_WRITTEN: PlanRefusal = PlanRefusal::Malformed(Malformed {
+    place: answers::NO_PLACE,
+});
 
 // How many bytes the plan of these rows takes. A caller who writes it lends a buffer of exactly this length.
-pub fn plan_length(rows: &[u32]) -> PlanLength
-    ensures { result ≡ length_of rows.now }
+pub fn plan_length(rows: &[u32]) -> Result<usize, PlanRefusal>
+    ensures { length_from result ≡ length_of rows.now }
 {
     if (plan_read::MAX_ROWS as usize) < rows.len() {
-        return no_length();
+        return Err(NOT_WRITTEN);
     }
-    let mut length = leb128_write::number_length(rows.len() as u32);
-    let mut i: usize = 0;
-    while i < rows.len() {
-        let row = leb128_write::number_length(rows[i]);
-        if row == 0 {
-            return no_length();
-        }
-        length += row;
-        i += 1;
+    let mut length = leb128_write::number_length(rows.len() as u32).ok_or(NOT_WRITTEN)?;
+    for &row in rows {
+        length += leb128_write::number_length(row).ok_or(NOT_WRITTEN)?;
     }
-    PlanLength {
-        number: answers::DONE,
-        length,
-        place: answers::NO_PLACE, // no plan is read
-    }
+    Ok(length)
 }

@@ -1,6 +1,7 @@
 -- Laws of what the program writes, by the answers of migration into the first bytes of its buffer.
 use mathlib.Core.Path.{◌≡◌, refl, sym, ap, ◌∙◌}
 use mathlib.Core.List.{List, [], ◌++◌}
+use Rattle.std.specs.Prelude.{Err}
 use mathlib.Core.Bool.{Bool, true, false, cond}
 use Prim.Native.Nat.{ℕ, ◌≤◌, ◌<◌}
 use native.Mathlib.Omega.{arith}
@@ -9,16 +10,27 @@ use lib.Seq.{length-take-le, take_at}
 use lib.Dec.{eqb}
 use borrow.Author.Tests.{eqb-true}
 use Rattle.answers.specs.Numbers.{done, malformed_plan}
+use Rattle.answers.specs.declared.PlanRefusal.{PlanRefusal}
 use Rattle.old_number.specs.OldNumber.{old_number}
 use Rattle.plan_read.specs.Plan.{Plan, rows, refused, row_destinations}
 use Rattle.plan_read.specs.Laws.Refusals.{Numbered, numbered_by}
-use Rattle.plan_length.specs.Length.{written_plan, allowed}
+use Rattle.plan_length.specs.Length.{written_plan, allowed, length_from}
 use Rattle.plan_length.specs.Laws.{and_right}
+use Rattle.plan_length.specs.declared.PlanLength.{PlanLength}
 use Rattle.plan_length.specs.declared.PlanWritten.{PlanWritten}
+use Rattle.plan_write.proofs.Rows.{refusal_some}
 use Rattle.plan_write.specs.Write.{fills, write_refusal, written_of}
 use Rattle.plan_migration.specs.Migration.{old_plan_of, migrated_length_of, migrate_answer, migrated_into, Migrates}
 use Rattle.migration_theorems.proofs.MigrationTheorems.{migration_theorems}
 use Rattle.plan_migrate.specs.Output.{output, Leaves}
+
+-- the plan is refused, and so is its length
+pub refused_none : (s out : List ℕ) (e : PlanRefusal) → length_from (Err e) ≡ migrated_length_of s → Leaves s out out 0
+refused_none s out e h = record { inside = omega arith; bytes = λ l. sym (go (old_plan_of s) refl) }
+  where
+    go : (p : Plan) → old_plan_of s ≡ p → output p ≡ []
+    go (rows l) q = absurd (refusal_some e (ap (λ (a : PlanLength). a.number) h ∙ (migration_theorems.migrated s l q).has_length))
+    go (refused k place) q = refl
 
 -- the buffer has no room for the migrated plan, and so none for the plan
 pub no_room : (s out : List ℕ) → length out < (migrated_length_of s).length → Leaves s out out 0

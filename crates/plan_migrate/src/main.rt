@@ -26,15 +26,14 @@ fn main(rt: HostRuntime) -> io::Result<()> {
 fn migrate(plan: &[u8], out: &mut [u8]) -> usize
     ensures { Leaves plan.now out.old out.new result }
 {
-    let needed = plan_migration::migrated_length(plan);
-    let length = needed.length;
+    let Ok(length) = plan_migration::migrated_length(plan) else {
+        return 0;
+    };
     if out.len() < length {
         return 0; // the buffer is shorter than the plan, since no plan becomes longer
     }
-    let written = plan_migration::migrate(plan, &mut out[..length]);
-    let refused = written.number != answers::DONE;
-    if refused {
-        return 0;
+    match plan_migration::migrate(plan, &mut out[..length]) {
+        Ok(()) => length,
+        Err(_) => 0,
     }
-    length
 }

@@ -1,7 +1,7 @@
 -- Laws of the answers of migration: which case of the definitions holds, by the length that was asked for first.
 use mathlib.Core.Path.{◌≡◌, refl, sym, ap, ◌∙◌}
 use mathlib.Core.List.{List}
-use mathlib.Core.Bool.{Bool, true, false, cond}
+use Rattle.std.specs.Prelude.{Err}
 use Prim.Native.Nat.{ℕ}
 use native.Mathlib.Omega.{arith}
 use lib.ListN.{length}
@@ -9,7 +9,8 @@ use borrow.Author.Tests.{eq-eqb}
 use Rattle.answers.specs.Numbers.{done, malformed_plan}
 use Rattle.plan_read.specs.Plan.{Plan, rows, refused, row_destinations}
 use Rattle.plan_read.specs.Laws.Refusals.{Numbered}
-use Rattle.plan_length.specs.Length.{written_plan, allowed, length_is, no_length, length_of, write_answer}
+use Rattle.plan_length.specs.Length.{written_plan, length_is, write_answer, length_from, written_from}
+use Rattle.answers.specs.declared.PlanRefusal.{PlanRefusal}
 use Rattle.plan_length.specs.declared.PlanLength.{PlanLength}
 use Rattle.plan_length.specs.declared.PlanWritten.{PlanWritten}
 use Rattle.plan_write.specs.Write.{fills, write_refusal, written_of}
@@ -22,33 +23,23 @@ pub record Migrated (p : Plan) (out after : List ℕ) (r : PlanWritten) : Type 0
   pub answer : r ≡ migrate_answer (length out) p
   pub buffer : after ≡ migrated_into out p
 
-module _ (out : List ℕ) (a : PlanLength) where
+module _ (out : List ℕ) where
   -- it has no length
-  pub no_length_lem : (p : Plan) → a ≡ migrated_length p → (a.number ≡ done → ⊥) → Migrated p out out (record { number = a.number; place = a.place })
-  unfolding length_of
-  no_length_lem (rows l) e z =
-      let w = not_allowed (row_destinations l) out a e z in
-      record { answer = ap refusal (go (allowed (row_destinations l)) e) ∙ w.answer; buffer = w.buffer }
-    where
-      refusal : PlanLength → PlanWritten
-      refusal q = record { number = q.number; place = q.place }
+  pub no_length_lem : (p : Plan) (e : PlanRefusal) → length_from (Err e) ≡ migrated_length p → Migrated p out out (written_from (Err e))
+  no_length_lem (rows l) e h = let w = not_allowed (row_destinations l) out e h in record { answer = w.answer; buffer = w.buffer }
+  no_length_lem (refused n place) e h = record { answer = ap (λ (a : PlanLength). record { number = a.number; place = a.place }) h; buffer = refl }
 
-      go : (t : Bool) → a ≡ cond t (length_is (length (written_plan (row_destinations l)))) no_length → a ≡ no_length
-      go true q = absurd (z (ap (λ (k : PlanLength). k.number) q))
-      go false q = q
-  no_length_lem (refused n place) e z = record { answer = rw e; buffer = refl }
+  module _ (n : ℕ) where
+    -- it has another length than the buffer
+    pub other_buffer : (p : Plan) → Numbered p → length_is n ≡ migrated_length p → (n ≡ length out → ⊥) → Migrated p out out (write_answer malformed_plan)
+    other_buffer (rows l) k e d = let w = other_length (row_destinations l) n e out d in record { answer = w.answer; buffer = w.buffer }
+    other_buffer (refused m place) k e d = absurd (omega (arith, ap (λ (a : PlanLength). a.number) e))
 
-  -- it has another length than the buffer
-  pub other_buffer : (p : Plan) → Numbered p → a ≡ migrated_length p → a.number ≡ done → (a.length ≡ length out → ⊥)
-      → Migrated p out out (write_answer malformed_plan)
-  other_buffer (rows l) k e z n = let w = other_length (row_destinations l) a e z out n in record { answer = w.answer; buffer = w.buffer }
-  other_buffer (refused n place) k e z m = absurd (omega (arith, ap (λ (q : PlanLength). q.number) e))
-
-  -- it fills the buffer
-  pub plan_room : (p : Plan) → Numbered p → a ≡ migrated_length p → a.number ≡ done → a.length ≡ length out → PlanRoom p (length out)
-  plan_room (rows l) k e z n =
-      record { keeps = known_allowed (row_destinations l) a e z; fills = sym (known_length (row_destinations l) a e z) ∙ n }
-  plan_room (refused n place) k e z m = absurd (omega (arith, ap (λ (q : PlanLength). q.number) e))
+    -- it fills the buffer
+    pub plan_room : (p : Plan) → Numbered p → length_is n ≡ migrated_length p → n ≡ length out → PlanRoom p (length out)
+    plan_room (rows l) k e d =
+        record { keeps = known_allowed (row_destinations l) n e; fills = sym (known_length (row_destinations l) n e) ∙ d }
+    plan_room (refused m place) k e d = absurd (omega (arith, ap (λ (a : PlanLength). a.number) e))
 
 pub filled : (p : Plan) (out : List ℕ) → PlanRoom p (length out) → Migrated p out (written_plan (destinations_in p)) (write_answer done)
 unfolding write_refusal written_of fills

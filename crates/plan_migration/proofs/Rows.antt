@@ -1,21 +1,20 @@
 -- Laws of rows read by the old rule: from the reader's answer back to the number, how long the rows are, and that they may be written.
 use mathlib.Core.Path.{◌≡◌, refl, sym, ap, ◌∙◌}
 use mathlib.Core.List.{List, [], ◌∷◌}
-use mathlib.Core.Bool.{Bool, true, false, cond}
+use Rattle.std.specs.Prelude.{Option, Some, Ok}
+use mathlib.Core.Bool.{true}
 use Prim.Native.Nat.{ℕ, zero, suc, ◌+◌, ◌-◌, ◌≤◌, ◌<◌}
 use native.Mathlib.Omega.{arith}
 use lib.ListN.{length, drop, length-append}
 use lib.Seq.{drop-drop}
-use lib.Dec.{leb}
 use borrow.Author.Tests.{le-leb}
 use Rattle.leb128.specs.Number.{Parsed, value, bad, max_number}
 use Rattle.leb128.specs.Answers.{number_answer, ReadsNumber}
 use Rattle.leb128.specs.Laws.Reading.{limit_three, Rest}
 use Rattle.leb128.specs.declared.Number.{Number}
-use Rattle.leb128.specs.declared.Number.TheVariants.{Value}
 use Rattle.leb128_write.specs.Written.{written_number}
-use Rattle.leb128_write.specs.Answers.{number_length}
-use Rattle.leb128_write.proofs.Laws.{groups_count, length_is_lem}
+use Rattle.leb128_write.specs.Answers.{number_length, unless_zero}
+use Rattle.leb128_write.proofs.Laws.{groups_count, length_is_lem, length_known, some_answer}
 use Rattle.old_number.specs.OldNumber.{old_number}
 use Rattle.old_number.specs.Laws.{OldUsed, old_used}
 use Rattle.plan_read.specs.Limits.{max_rows}
@@ -40,24 +39,28 @@ pub record Found (at : ℕ) (s : List ℕ) (v next : ℕ) : Type 0 where
   pub is : old_number at (drop at s) ≡ value v next (drop next s)
   pub small : v ≤ max_number
 
-pub found : (at : ℕ) (s : List ℕ) (r : Number) (v next : ℕ) → ReadsNumber (old_number at (drop at s)) r → r ≡ Value v next → Found at s v next
-found at s r v next h e = go (old_number at (drop at s)) refl (old_used 2 at (drop at s)) (sym h.answer ∙ e)
+pub found : (at : ℕ) (s : List ℕ) (n : Number) → ReadsNumber (old_number at (drop at s)) (Ok n) → Found at s n.value n.next
+found at s n h = go (old_number at (drop at s)) refl (old_used 2 at (drop at s)) h.answer
   where
-    go : (p : Parsed) → old_number at (drop at s) ≡ p → OldUsed 2 at (drop at s) p → number_answer p ≡ Value v next → Found at s v next
-    go (value w n rest) q u k =
-        let ev : w ≡ v = cc in
-        let en : n ≡ next = cc in
-        record { is = q ∙ rw ((old_rest at s (value w n rest) u).1, ev, en); small = omega (arith, limit_three, u.below, ev) }
-    go (bad place) q u k = let z : ◌≡◌ {A = ℕ} 0 1 = cc in absurd (omega arith)
+    go : (p : Parsed) → old_number at (drop at s) ≡ p → OldUsed 2 at (drop at s) p → Ok n ≡ number_answer p → Found at s n.value n.next
+    go (value w m rest) q u k =
+        let e : ◌≡◌ {A = Number} n (record { value = w; next = m }) = cc in
+        rw e (record { is = q ∙ rw (old_rest at s (value w m rest) u).1; small = omega (arith, limit_three, u.below) })
+    go (bad place) q u k = absurd cc
 
--- no number takes more than three bytes
-pub three_bytes : (v : ℕ) → number_length v ≤ 3
-unfolding number_length
-three_bytes v = go (leb v max_number)
-  where
-    go : (t : Bool) → cond t (length (written_number v)) 0 ≤ 3
-    go true = omega (arith, groups_count 2 v)
-    go false = omega arith
+-- a number that is written takes at most three bytes
+pub record Counted (v n : ℕ) : Type 0 where
+  pub is : n ≡ number_length v
+  pub small : n ≤ 3
+
+pub counted : (v : ℕ) → v ≤ max_number → (r : Option ℕ) → r ≡ unless_zero (number_length v) → (n : ℕ) → r ≡ Some n → Counted v n
+counted v h r e n s =
+    let k = length_known v n (sym s ∙ e) in
+    record { is = k.1 ∙ sym (length_is_lem v h); small = omega (arith, k.1, groups_count 2 v) }
+
+-- which is always answered
+pub length_some : (v : ℕ) → v ≤ max_number → unless_zero (number_length v) ≡ Some (length (written_number v))
+length_some v h = rw (length_is_lem v h) (some_answer (length (written_number v)) (omega (arith, groups_count 2 v)))
 
 with_row : (n : ℕ) (r : Row) (p : Plan) → length_with n (cons_row r p) ≡ length_with (n + length (written_number r.destination)) p
 unfolding written_rows

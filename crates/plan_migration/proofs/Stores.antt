@@ -1,6 +1,7 @@
 -- Laws of a migrated plan's stores: the rows to come by the row that is stored next, and the plan by its number of rows.
 use mathlib.Core.Path.{◌≡◌, refl, sym, ap, subst, ◌∙◌}
 use mathlib.Core.List.{List, [], ◌∷◌, ◌++◌}
+use Rattle.std.specs.Prelude.{Result, Ok, Err}
 use mathlib.Core.Bool.{Bool, true, false, cond}
 use Prim.Native.Nat.{ℕ, zero, ◌+◌, ◌-◌, ◌≤◌}
 use native.Mathlib.Omega.{arith}
@@ -12,7 +13,7 @@ use Rattle.answers.specs.Numbers.{input_too_long}
 use Rattle.stores.specs.Laws.{sets_append, sets_all}
 use Rattle.leb128.specs.Answers.{ReadsNumber}
 use Rattle.leb128.specs.declared.Number.{Number}
-use Rattle.leb128.specs.declared.Number.TheVariants.{Value, Bad}
+use Rattle.answers.specs.declared.Malformed.{Malformed}
 use Rattle.leb128_write.specs.Written.{written_number}
 use Rattle.old_number.specs.OldNumber.{old_number}
 use Rattle.plan_read.specs.Limits.{max_plan, max_rows, max_destination}
@@ -52,10 +53,6 @@ first_row_lem r (refused n place) out to u = absurd u
 pub room_moved : (p : Plan) (to to' n n' : ℕ) → to' ≡ to → n' ≡ n → RowsRoom p to n → RowsRoom p to' n'
 room_moved p to to' n n' e q u = rw (e, q) u
 
-pub stored_next : (out after : List ℕ) (to past : ℕ) (d others : List ℕ) → after ≡ sets out to d → past ≡ to + length d
-    → sets after past others ≡ sets (sets out to d) (to + length d) others
-stored_next out after to past d others e q = rw (e, q)
-
 -- after the last row
 pub none_left : (i count at to n : ℕ) (s : List ℕ) → count ≤ i → RowsRoom (rows_by old_number (count - i) at (drop at s)) to n
     → written_rows (destinations_in (rows_by old_number (count - i) at (drop at s))) ≡ []
@@ -75,7 +72,7 @@ pub record PlanParts (s : List ℕ) (n count next : ℕ) : Type 0 where
       ≡ written_plan (destinations_in (plan_by old_number s))
   pub fills : length (written_plan (destinations_in (plan_by old_number s))) ≡ n
 
-module _ (s : List ℕ) (n : ℕ) (u : PlanRoom (plan_by old_number s) n) (r : Number) (h : ReadsNumber (old_number 0 (drop 0 s)) r) where
+module _ (s : List ℕ) (n : ℕ) (u : PlanRoom (plan_by old_number s) n) (r : Result Number Malformed) (h : ReadsNumber (old_number 0 (drop 0 s)) r) where
   room_of : (p : Plan) → plan_by old_number s ≡ p → PlanRoom p n
   room_of p e = subst (λ (q : Plan). PlanRoom q n) e u
 
@@ -89,8 +86,8 @@ module _ (s : List ℕ) (n : ℕ) (u : PlanRoom (plan_by old_number s) n) (r : N
   after : plan_by old_number s ≡ rows_after old_number s (λ (p : Plan). p) r
   after = sym (whole_after old_number s (λ (p : Plan). p) (first_rest s) short) ∙ sym (ap (rows_after old_number s (λ (p : Plan). p)) h.answer)
 
-  pub none_read : (place : ℕ) → r ≡ Bad place → ⊥
-  none_read place e = room_of (malformed place) (after ∙ ap (rows_after old_number s (λ (p : Plan). p)) e)
+  pub none_read : (e : Malformed) → r ≡ Err e → ⊥
+  none_read m e = room_of (malformed m.place) (after ∙ ap (rows_after old_number s (λ (p : Plan). p)) e)
 
   module _ (count next : ℕ) where
     abbrev to_come : Plan
@@ -111,7 +108,7 @@ module _ (s : List ℕ) (n : ℕ) (u : PlanRoom (plan_by old_number s) n) (r : N
         }
     parts (refused k place) e q w f m = absurd f
 
-    pub plan_parts : r ≡ Value count next → PlanParts s n count next
+    pub plan_parts : r ≡ Ok (record { value = count; next = next }) → PlanParts s n count next
     plan_parts e = go (leb count max_rows) refl (after ∙ ap (rows_after old_number s (λ (p : Plan). p)) e)
       where
         go : (t : Bool) → leb count max_rows ≡ t → plan_by old_number s ≡ cond t to_come (malformed 0) → PlanParts s n count next

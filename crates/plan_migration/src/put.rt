@@ -7,8 +7,6 @@ ghost use Rattle.plan_length.specs.Length.{written_rows, written_plan};
 ghost use Rattle.plan_migration.specs.Migration.{old_plan_of};
 ghost use Rattle.plan_migration.specs.Room.{RowsRoom, PlanRoom, destinations_in};
 
-use leb128::Number;
-
 // Writes the rows that stand from one place on in the plan, from another on in the buffer.
 fn put_rows(plan: &[u8], first: usize, count: u32, out: &mut [u8], start: usize)
     requires { RowsRoom (rows_by old_number count first (drop first plan.now)) start (length out.old) }
@@ -17,14 +15,10 @@ fn put_rows(plan: &[u8], first: usize, count: u32, out: &mut [u8], start: usize)
 {
     let mut at = first;
     let mut to = start;
-    let mut i: u32 = 0;
-    while i < count {
-        let Number::Value { value, next } = old_number::old_number_at(plan, at) else {
-            return;
-        };
-        to = leb128_write::write_number(out, to, value);
-        at = next;
-        i += 1;
+    for _ in 0..count {
+        let row = old_number::old_number_at(plan, at).unwrap();
+        to = leb128_write::write_number(out, to, row.value).unwrap();
+        at = row.next;
     }
 }
 
@@ -33,9 +27,7 @@ pub fn put_plan(plan: &[u8], out: &mut [u8])
     requires { PlanRoom (old_plan_of plan.now) (length out.old) }
     ensures { out.new ≡ written_plan (destinations_in (old_plan_of plan.now)) }
 {
-    let Number::Value { value, next } = old_number::old_number_at(plan, 0) else {
-        return;
-    };
-    let start = leb128_write::write_number(out, 0, value);
-    put_rows(plan, next, value, out, start);
+    let rows = old_number::old_number_at(plan, 0).unwrap();
+    let start = leb128_write::write_number(out, 0, rows.value).unwrap();
+    put_rows(plan, rows.next, rows.value, out, start);
 }

@@ -2,110 +2,119 @@
 // the house plan.
 #![tactic(auto)]
 
-ghost use Rattle.std.specs.Prelude.{◌≡◌, ◌≤◌};
-ghost use Rattle.plan_pair.specs.Pair.{location_in, refused_location, plan_refusal, smaller_of, plans_refused, location_of};
+ghost use Rattle.std.specs.Prelude.{◌≡◌, ◌≤◌, IfOk};
+ghost use Rattle.plan_pair.specs.Pair.{
+  pair_refusal_number,
+  pair_refusal_plan,
+  pair_refusal_place,
+  smaller_refusal,
+  located,
+  location_from,
+  location_of,
+};
 
-use plan::ChuteRow;
+use answers::{PlanRefusal, Refusal};
 use plan_read::Row;
 
-// One of the two plans, or neither.
-#[derive(Clone, Copy)]
+// One of the two plans.
+#[derive(Clone, Copy, Debug, PartialEq, Eq)]
 pub enum Source {
-    Neither,
     Site,
     House,
 }
 
-// Where the bytes of a row are: 0 or the refusal's number, the plan that they are a part of, where they start in it and how many they are. With 9, the plan
-// that is malformed, and the place in it.
-#[derive(Clone, Copy)]
+// Where the bytes of a row are: the plan that they are a part of, where they start in it and how many they are.
+#[derive(Clone, Copy, Debug, PartialEq, Eq)]
 pub struct RowLocation {
-    pub number: u8,
     pub source: Source,
     pub start: usize,
     pub length: usize,
-    pub malformed: Source,
-    pub place: usize,
 }
 
-fn refused(number: u8, malformed: Source, place: usize) -> RowLocation
-    ensures { result ≡ refused_location number malformed place }
-{
-    RowLocation {
-        number,
-        source: Source::Neither,
-        start: 0,
-        length: 0,
-        malformed,
-        place,
+// What a question on two plans is refused for. Of malformed plans the first is named, with the place in it.
+#[derive(Clone, Copy, Debug, PartialEq, Eq)]
+pub enum PairRefusal {
+    TooLong,
+    Malformed { plan: Source, place: usize },
+    NoSuchChute,
+}
+
+impl PairRefusal {
+    pub fn number(self) -> u8
+        ensures { result ≡ pair_refusal_number self }
+    {
+        match self {
+            PairRefusal::TooLong => Refusal::InputTooLong.number(),
+            PairRefusal::Malformed { plan: _, place: _ } => Refusal::MalformedPlan.number(),
+            PairRefusal::NoSuchChute => Refusal::NoSuchChute.number(),
+        }
+    }
+
+    // The plan that is malformed.
+    pub fn malformed(self) -> Option<Source>
+        ensures { result ≡ pair_refusal_plan self }
+    {
+        match self {
+            PairRefusal::Malformed { plan, place: _ } => Some(plan),
+            PairRefusal::TooLong | PairRefusal::NoSuchChute => None,
+        }
+    }
+
+    // The place at which it is.
+    pub fn place(self) -> usize
+        ensures { result ≡ pair_refusal_place self }
+    {
+        match self {
+            PairRefusal::Malformed { plan: _, place } => place,
+            PairRefusal::TooLong | PairRefusal::NoSuchChute => answers::NO_PLACE,
+        }
+    }
+
+    // The smaller of the site plan's refusal and the house plan's. The site plan is read first, so that where both are malformed it is the one named.
+    fn smaller(self, of_house: PairRefusal) -> PairRefusal
+        ensures { result ≡ smaller_refusal self of_house }
+    {
+        match of_house {
+            PairRefusal::TooLong => of_house,
+            PairRefusal::Malformed { plan: _, place: _ } | PairRefusal::NoSuchChute => self,
+        }
     }
 }
 
-fn located(source: Source, row: Row) -> RowLocation
-    requires { row.start ≤ row.end }
-    ensures { result ≡ location_in source row }
+// Where a row is that was read from one of the two plans, if that has it.
+fn located(
+    source: Source,
+    read: Result<Row, PlanRefusal>,
+) -> Result<Option<RowLocation>, PairRefusal>
+    requires { IfOk read (λ row. row.start ≤ row.end) }
+    ensures { result ≡ located source read }
 {
-    RowLocation {
-        number: answers::DONE,
-        source,
-        start: row.start,
-        length: row.end - row.start,
-        malformed: Source::Neither,
-        place: answers::NO_PLACE,
+    match read {
+        Ok(row) => Ok(Some(RowLocation {
+            source,
+            start: row.start,
+            length: row.end - row.start,
+        })),
+        Err(PlanRefusal::NoSuchChute) => Ok(None),
+        Err(PlanRefusal::Malformed(malformed)) => Err(PairRefusal::Malformed {
+            plan: source,
+            place: malformed.place,
+        }),
+        Err(PlanRefusal::TooLong) => Err(PairRefusal::TooLong),
     }
-}
-
-// A plan's own refusal: none where the plan was read, be it without the chute.
-fn plan_refusal(number: u8) -> u8
-    ensures { result ≡ plan_refusal number }
-{
-    if number == answers::NO_SUCH_CHUTE {
-        return answers::DONE;
-    }
-    number
-}
-
-// Of two refusals, either of which is none where it is 0, the smaller is given.
-fn smaller(a: u8, b: u8) -> u8
-    ensures { result ≡ smaller_of a b }
-{
-    if a == answers::DONE {
-        return b;
-    }
-    if b == answers::DONE {
-        return a;
-    }
-    if a <= b { a } else { b }
-}
-
-// Two plans with this refusal. The site plan is read first, so that where both are malformed it is the one named.
-fn plans_refused(number: u8, in_site: ChuteRow, in_house: ChuteRow) -> RowLocation
-    ensures { result ≡ plans_refused number in_site in_house }
-{
-    if number != answers::MALFORMED_PLAN {
-        return refused(number, Source::Neither, answers::NO_PLACE);
-    }
-    if in_site.number == answers::MALFORMED_PLAN {
-        return refused(answers::MALFORMED_PLAN, Source::Site, in_site.place);
-    }
-    refused(answers::MALFORMED_PLAN, Source::House, in_house.place)
 }
 
 // Where the row of a chute is. Both plans are read whole, and their refusals come before the chute's.
-pub fn row_location(site: &[u8], house: &[u8], chute: u64) -> RowLocation
-    ensures { result ≡ location_of site.now house.now chute }
+#[tactic(auto, using(crate::proofs::Locations::row_ordered))]
+pub fn row_location(site: &[u8], house: &[u8], chute: u64) -> Result<RowLocation, PairRefusal>
+    ensures { location_from result ≡ location_of site.now house.now chute }
 {
-    let in_site = plan::row_of(site, chute);
-    let in_house = plan::row_of(house, chute);
-    let refusal = smaller(plan_refusal(in_site.number), plan_refusal(in_house.number));
-    if refusal != answers::DONE {
-        return plans_refused(refusal, in_site, in_house);
+    let in_site = located(Source::Site, plan::row_of(site, chute));
+    let in_house = located(Source::House, plan::row_of(house, chute));
+    match (in_site, in_house) {
+        (Ok(in_site), Ok(in_house)) => in_site.or(in_house).ok_or(PairRefusal::NoSuchChute),
+        (Err(of_site), Ok(_)) => Err(of_site),
+        (Ok(_), Err(of_house)) => Err(of_house),
+        (Err(of_site), Err(of_house)) => Err(of_site.smaller(of_house)),
     }
-    if in_site.number == answers::DONE {
-        return located(Source::Site, in_site.row);
-    }
-    if in_house.number == answers::DONE {
-        return located(Source::House, in_house.row);
-    }
-    refused(answers::NO_SUCH_CHUTE, Source::Neither, answers::NO_PLACE)
 }

@@ -5,6 +5,11 @@ use mathlib.Core.List.{List}
 use mathlib.Core.Bool.{Bool, true, false, cond}
 use Prim.Native.Nat.{ℕ, ◌-◌, ◌≤◌}
 use native.Mathlib.Omega.{arith}
+use denote.Ref.{Bor}
+use Rattle.std.specs.Prelude.{Option, Some, None, Result, Ok, Err}
+use Rattle.std.specs.Result.{result_ok}
+use Rattle.plan_pair.specs.declared.RowLocation.{RowLocation}
+use Rattle.plan_pair.specs.declared.PairRefusal.{PairRefusal}
 use lib.ListN.{length, length-take, length-drop}
 use lib.Dec.{leb, eqb}
 use borrow.Author.Tests.{le-leb, eqb-true, eqb-false}
@@ -12,10 +17,10 @@ use Rattle.answers.specs.Numbers.{done, malformed_plan, no_such_chute}
 use Rattle.answers.specs.Breaches.{no_place}
 use Rattle.plan_read.specs.Places.{RowIn, bytes_of}
 use Rattle.plan_read.specs.declared.Row.{Row}
-use Rattle.plan.specs.Answers.{chute_row_of}
+use Rattle.plan.specs.Answers.{ChuteRow, chute_row_of}
 use Rattle.plan.specs.Laws.{found_in}
-use Rattle.plan.specs.declared.ChuteRow.{ChuteRow}
 use Rattle.plan_pair.specs.Pair.{
+  Location,
   location_in,
   refused_location,
   no_location,
@@ -25,13 +30,23 @@ use Rattle.plan_pair.specs.Pair.{
   plans_refusal,
   plans_refused,
   location,
+  location_from,
   location_of,
 }
 use Rattle.plan_pair.specs.declared.Source.{Source}
-use Rattle.plan_pair.specs.declared.Source.TheVariants.{Neither, Site, House}
-use Rattle.plan_pair.specs.declared.RowLocation.{RowLocation}
-use Rattle.plan_part.specs.Part.{part_from, part_of, row_bytes_of}
+use Rattle.plan_pair.specs.declared.Source.TheVariants.{Site, House}
+use Rattle.plan_part.specs.Part.{part_from, part_of, part_at, address_of, address_at, row_bytes_of}
 use Rattle.plan_part.specs.Parts.{PartAt, RowParts}
+
+-- the part at the code's answer is the part at the location that it makes, and so is where it stands
+pub part_answered : (site house : List ℕ) (r : Result RowLocation PairRefusal) → part_at site house (result_ok r) ≡ part_of site house (location_from r)
+part_answered site house (Ok l) = refl
+part_answered site house (Err e) = refl
+
+pub address_answered : (site house : Bor (List ℕ)) (r : Result RowLocation PairRefusal)
+    → address_at site house (result_ok r) ≡ address_of site house (location_from r)
+address_answered site house (Ok l) = refl
+address_answered site house (Err e) = refl
 
 -- a row that lies inside a plan: the part at its location is its bytes
 part_row : (s : List ℕ) (r : Row) → RowIn s r → part_from s r.start (r.end - r.start) ≡ bytes_of r s
@@ -70,8 +85,8 @@ module _ (s h : ChuteRow) where
       smaller_one (plan_refusal s.number) (plan_refusal h.number) (refusal_plan s.number).0 (refusal_plan h.number).0
 
   -- the cases of a location, each a place where a proof goes on
-  by_case : (P : RowLocation → Type 0)
-      → ((n : ℕ) (malformed : Source) (place : ℕ) → n ≡ plans_refusal s h → (n ≡ done → ⊥) → P (refused_location n malformed place))
+  by_case : (P : Location → Type 0)
+      → ((n : ℕ) (malformed : Option Source) (place : ℕ) → n ≡ plans_refusal s h → (n ≡ done → ⊥) → P (refused_location n malformed place))
       → (s.number ≡ done → P (location_in Site s.row))
       → ((s.number ≡ done → ⊥) → h.number ≡ done → P (location_in House h.row))
       → (s.number ≡ no_such_chute → h.number ≡ no_such_chute → P (no_location no_such_chute))
@@ -93,9 +108,9 @@ module _ (s h : ChuteRow) where
 
           named : (t u : Bool) → eqb (plans_refusal s h) malformed_plan ≡ t
               → P (cond t (cond u (malformed_in Site s.place) (malformed_in House h.place)) (no_location (plans_refusal s h)))
-          named true true e = refused _ Site s.place (sym (eqb-true _ _ e)) (λ z. omega arith)
-          named true false e = refused _ House h.place (sym (eqb-true _ _ e)) (λ z. omega arith)
-          named false u e = refused _ Neither no_place refl some
+          named true true e = refused _ (Some Site) s.place (sym (eqb-true _ _ e)) (λ z. omega arith)
+          named true false e = refused _ (Some House) h.place (sym (eqb-true _ _ e)) (λ z. omega arith)
+          named false u e = refused _ None no_place refl some
 
 module _ (site house : List ℕ) (chute : ℕ) where
   abbrev s : ChuteRow
@@ -104,7 +119,7 @@ module _ (site house : List ℕ) (chute : ℕ) where
   abbrev h : ChuteRow
   h = chute_row_of house chute
 
-  refused_part : (n : ℕ) (malformed : Source) (place : ℕ) → (n ≡ done → ⊥) → PartAt site house (refused_location n malformed place)
+  refused_part : (n : ℕ) (malformed : Option Source) (place : ℕ) → (n ≡ done → ⊥) → PartAt site house (refused_location n malformed place)
   refused_part n malformed place z =
       record {
         as_long = refl;
@@ -128,13 +143,13 @@ module _ (site house : List ℕ) (chute : ℕ) where
       by_case s h (PartAt site house) (λ n m place e z. refused_part n m place z)
       (λ e. let i = found_in site chute e in found_part Site site s.row i (part_row site s.row i))
       (λ z e. let i = found_in house chute e in found_part House house h.row i (part_row house h.row i))
-      (λ e f. refused_part no_such_chute Neither no_place (λ z. omega arith))
+      (λ e f. refused_part no_such_chute None no_place (λ z. omega arith))
 
   -- whose bytes: by the location's cases
-  abbrev Whose : RowLocation → Type 0
+  abbrev Whose : Location → Type 0
   Whose l =
-      (l.number ≡ done → s.number ≡ done → (l.source ≡ Site) × (part_of site house l ≡ bytes_of s.row site))
-      × (l.number ≡ done → (s.number ≡ done → ⊥) → (h.number ≡ done) × ((l.source ≡ House) × (part_of site house l ≡ bytes_of h.row house)))
+      (l.number ≡ done → s.number ≡ done → (l.source ≡ Some Site) × (part_of site house l ≡ bytes_of s.row site))
+      × (l.number ≡ done → (s.number ≡ done → ⊥) → (h.number ≡ done) × ((l.source ≡ Some House) × (part_of site house l ≡ bytes_of h.row house)))
 
   whose : Whose (location s h)
   whose =

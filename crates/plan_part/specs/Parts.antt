@@ -1,23 +1,22 @@
 -- The part that is returned, at every chute of every two plans: whose bytes it is, that it is as long as its location says, one to three bytes where a row was
 -- found, and empty exactly on a refusal.
-use Rattle.std.specs.Prelude.{ℕ, ◌≤◌, ◌≡◌, ◌↔◌, List, [], length}
+use Rattle.std.specs.Prelude.{ℕ, ◌≤◌, ◌≡◌, ◌↔◌, List, [], length, Some}
 use Rattle.answers.specs.Numbers.{done, no_such_chute}
 use Rattle.plan_read.specs.Places.{RowIn, bytes_of}
 use Rattle.plan.specs.Answers.{chute_row_of}
-use Rattle.plan_pair.specs.Pair.{location_of}
+use Rattle.plan_pair.specs.Pair.{Location, location_of}
 use Rattle.plan_pair.specs.declared.Source.{Source}
 use Rattle.plan_pair.specs.declared.Source.TheVariants.{Site, House}
-use Rattle.plan_pair.specs.declared.RowLocation.{RowLocation}
 use Rattle.plan_part.specs.Part.{part_of, row_bytes_of}
 
-pub record PartAt (site house : List ℕ) (l : RowLocation) : Type 0 where
+pub record PartAt (site house : List ℕ) (l : Location) : Type 0 where
   pub as_long : length (part_of site house l) ≡ l.length
   pub one_to_three : l.number ≡ done → (1 ≤ l.length) × (l.length ≤ 3)
   pub empty : (part_of site house l ≡ []) ↔ (l.number ≡ done → ⊥)
 
 -- the part is the bytes of the chute's row in the plan s, which the location names: the row lies inside that plan, and its bytes alone read as its destination
 pub record RowFrom (source : Source) (s site house : List ℕ) (chute : ℕ) : Type 0 where
-  pub named : (location_of site house chute).source ≡ source
+  pub named : (location_of site house chute).source ≡ Some source
   pub bytes : row_bytes_of site house chute ≡ bytes_of (chute_row_of s chute).row s
   pub inside : RowIn s (chute_row_of s chute).row
 

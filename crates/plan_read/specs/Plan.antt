@@ -1,15 +1,15 @@
 -- A plan (docs/RULES.md, 'Chute plan'): the number of rows, at most 4,096, then each row's destination, then nothing more. Reading a plan of
 -- more than 65,536 bytes is refused with 5, a malformed one with 9.
-use Rattle.std.specs.Prelude.{ℕ, zero, suc, List, [], ◌∷◌, map, cond, ltb, leb, length, get_or}
+use Rattle.std.specs.Prelude.{ℕ, zero, suc, List, [], ◌∷◌, map, cond, ltb, leb, length, get_or, slice_get, Option, None, Result, Ok, Err}
 use Rattle.answers.specs.Numbers.{input_too_long, malformed_plan}
 use Rattle.answers.specs.Breaches.{too_many_rows, bytes_after, place_of, no_place}
+use Rattle.answers.specs.Places.{plan_refusal_of}
+use Rattle.answers.specs.declared.Malformed.{Malformed}
+use Rattle.answers.specs.declared.PlanRefusal.{PlanRefusal}
 use Rattle.leb128.specs.Number.{Parsed, value, bad, number}
 use Rattle.plan_read.specs.Limits.{max_plan, max_rows}
 use Rattle.plan_read.specs.declared.Row.{Row}
-use Rattle.plan_read.specs.declared.RowRead.{RowRead}
-use Rattle.plan_read.specs.declared.RowRead.TheVariants.{Found, NotRow}
 use Rattle.plan_read.specs.declared.PlanRead.{PlanRead}
-use Rattle.plan_read.specs.declared.PlanRead.TheVariants.{Rows, Refused}
 
 -- a number of a plan, at a place, be it a flat plan or a hall plan
 abbrev pub plan_number : ℕ → List ℕ → Parsed
@@ -19,9 +19,9 @@ abbrev pub row : ℕ → ℕ → ℕ → Row
 row d a e = record { destination = d; start = a; end = e }
 
 -- the row reader's answer at a place
-abbrev pub row_answer : ℕ → Parsed → RowRead
-row_answer at (value v next rest) = Found (row v at next)
-row_answer at (bad place) = NotRow place
+abbrev pub row_answer : ℕ → Parsed → Result Row Malformed
+row_answer at (value v next rest) = Ok (row v at next)
+row_answer at (bad place) = Err (record { place = place })
 
 -- what a list of bytes is as a plan: its rows; or the refusal and the place at which it is malformed, 0 with refusal 5
 pub data Plan : Type 0 where
@@ -76,7 +76,12 @@ row_at (suc c) l = get_or l c no_row
 abbrev pub row_destinations : List Row → List ℕ
 row_destinations l = map (λ (r : Row). r.destination) l
 
+-- and the same where it may be missing
+abbrev pub row_if : ℕ → List Row → Option Row
+row_if zero l = None
+row_if (suc c) l = slice_get l c
+
 -- the code's answer of one pass that keeps the row of a chute
-abbrev pub plan_answer : ℕ → Plan → PlanRead
-plan_answer chute (rows l) = Rows (length l) (row_at chute l)
-plan_answer chute (refused n place) = Refused n place
+abbrev pub plan_answer : ℕ → Plan → Result PlanRead PlanRefusal
+plan_answer chute (rows l) = Ok (record { count = length l; row = row_if chute l })
+plan_answer chute (refused n place) = Err (plan_refusal_of n place)

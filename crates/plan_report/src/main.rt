@@ -2,7 +2,7 @@
 // with the place at which the plan is malformed.
 #![tactic(auto)]
 
-use plan::PlanSummary;
+use answers::PlanRefusal;
 use std::io;
 
 // One byte more than a plan may have tells a plan that is too long, so no input is read further.
@@ -20,28 +20,25 @@ fn main(rt: HostRuntime) -> io::Result<()> {
 }
 
 // A refusal, and for a malformed plan the place.
-fn refused(rt: &impl Print, summary: PlanSummary) -> io::Result<()> {
-    let number = summary.number;
-    if number == answers::MALFORMED_PLAN {
-        let place = summary.place;
-        return println!(rt; "refused {number} at {place}");
+fn refused(rt: &impl Print, refusal: PlanRefusal) -> io::Result<()> {
+    let number = refusal.number();
+    if let PlanRefusal::Malformed(malformed) = refusal {
+        return println!(rt; "refused {number} at {}", malformed.place);
     }
     println!(rt; "refused {number}")
 }
 
 fn report(rt: &impl Print, plan: &[u8]) -> io::Result<()> {
-    let summary = plan::read_plan(plan);
-    if summary.number != answers::DONE {
-        return refused(rt, summary);
-    }
-    let rows = summary.rows;
+    let rows = match plan::read_plan(plan) {
+        Ok(rows) => rows,
+        Err(refusal) => return refused(rt, refusal),
+    };
     println!(rt; "rows {rows}")?;
     let mut cursor = plan_walk::start_at(plan);
     for chute in 1..=rows {
         let answer = plan_walk::step_at(plan, cursor);
         println!(rt; "{chute} {}", answer.destination)?;
-        let next = answer.next;
-        cursor = next;
+        cursor = answer.next;
     }
     Ok(())
 }

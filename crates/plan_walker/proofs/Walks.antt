@@ -14,7 +14,7 @@ use Rattle.answers.specs.Breaches.{no_place}
 use Rattle.leb128.specs.Number.{Parsed, value, bad, groups}
 use Rattle.leb128.specs.Laws.Reading.{Rest, groups_rest}
 use Rattle.plan_read.specs.Limits.{max_plan, max_rows}
-use Rattle.plan_read.specs.Plan.{Plan, rows, refused, malformed, cons_row, after_number, plan_number, row, rows_by, rows_from, plan_in, plan_by, plan_of, no_row, plan_answer}
+use Rattle.plan_read.specs.Plan.{Plan, rows, refused, malformed, cons_row, after_number, plan_number, row, rows_by, rows_from, plan_in, plan_by, plan_of, no_row}
 use Rattle.plan_read.specs.Laws.Refusals.{Numbered, plan_numbered}
 use Rattle.plan.specs.Answers.{summary_of, summary, row_found, no_chute_row, chute_row, chute_row_of, destination_of, lookup_of}
 use Rattle.plan_read.specs.declared.Row.{Row}
@@ -160,12 +160,12 @@ module _ (plan : Bor (List ℕ)) where
   module _ (k : ℕ) where
     abbrev start_for : Plan → Cursor
     start_for p =
-        let a = summary (plan_answer 0 p) in
+        let a = summary p in
         record { at = if_done a.number (first_row_at s) 0; number = a.number; place = a.place }
 
     abbrev AnswersAs : Plan → Cursor → Type 0
     AnswersAs p c =
-        (nth k (walker_at plan c) ≡ destination_of (chute_row (suc k) (plan_answer (suc k) p))) × (walked_out k (walker_at plan c) ≡ take k (destinations_of p))
+        (nth k (walker_at plan c) ≡ destination_of (chute_row (suc k) p)) × (walked_out k (walker_at plan c) ≡ take k (destinations_of p))
 
     asks_go : (p : Plan) → Numbered p → AsksFrom (first_row_at s) p → AnswersAs p (start_for p)
     asks_go (rows l) u a = let one : 1 ≤ suc k = omega arith in rw (le-leb 1 (suc k) one) (a k)

@@ -14,19 +14,23 @@ pub struct Walker<'a> {
     pub cursor: Cursor,
 }
 
-// A walker at the first row of a plan.
-pub fn new<'a>(plan: &'a [u8]) -> Walker<'a>
-    ensures { result ≡ walker_at plan.entry (walk_start plan.now) }
-{
-    let cursor = plan_walk::start_at(plan);
-    Walker { plan, cursor }
-}
+impl<'a> Walker<'a> {
+    // A walker at the first row of a plan.
+    pub fn new(plan: &'a [u8]) -> Walker<'a>
+        ensures { result ≡ walker_at plan.entry (walk_start plan.now) }
+    {
+        Walker {
+            plan,
+            cursor: plan_walk::start_at(plan),
+        }
+    }
 
-// An ask: the next row's destination, and the walker stands past that row.
-pub fn next<'s, 'a>(w: &'s mut Walker<'a>) -> WalkAnswer
-    ensures { (result ≡ asks w.old) × (w.new ≡ moved w.old result.next) }
-{
-    let answer = plan_walk::step_at(w.plan, w.cursor);
-    w.cursor = answer.next;
-    answer
+    // An ask: the next row's destination, and the walker stands past that row.
+    pub fn next(&mut self) -> WalkAnswer
+        ensures { (result ≡ asks self.old) × (self.new ≡ moved self.old result.next) }
+    {
+        let answer = plan_walk::step_at(self.plan, self.cursor);
+        self.cursor = answer.next;
+        answer
+    }
 }

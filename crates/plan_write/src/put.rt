@@ -10,9 +10,7 @@ pub fn put_rows(rows: &[u32], out: &mut [u8], first: usize)
     ensures { out.new ≡ sets out.old first (written_rows rows.now) }
 {
     let mut at = first;
-    let mut i: usize = 0;
-    while i < rows.len() {
-        at = leb128_write::write_number(out, at, rows[i]);
-        i += 1;
+    for &row in rows {
+        at = leb128_write::write_number(out, at, row).unwrap();
     }
 }

@@ -1,71 +1,59 @@
 // What a start and a call in one go are refused for, as code tests it (docs/RULES.md, 'Numbers'). The definitions are those of `calls`; sessions and one-shot
 // calls share the start's.
-#![tactic(auto)]
+#![tactic(auto, using(crate::proofs::Names::pointwise_is_same, answers::proofs::Turns::asked_in_turn), unfolding(calls::specs::Start::start_refusal))]
 
-ghost use Rattle.std.specs.Prelude.{◌≡◌, cond, eqb};
-ghost use Rattle.answers.specs.Numbers.{done, reserved_name, bad_output_length};
-ghost use Rattle.calls.specs.Start.{is_reserved, named, keyed, start_refusal};
+ghost use Rattle.std.specs.Prelude.{◌≡◌};
+ghost use Rattle.answers.specs.Numbers.{done};
+ghost use Rattle.answers.specs.Done.{answered};
+ghost use Rattle.calls.specs.Start.{named, keyed, start_refusal};
 ghost use Rattle.calls.specs.Call.{KMAC256, KMACXOF256, call_refusal};
 
-use answers::{
-    BAD_KEY_LENGTH, BAD_OUTPUT_LENGTH, DONE, INPUT_TOO_LONG, RESERVED_NAME, STRING_TOO_LONG,
-    first_of, over,
-};
+use answers::{Refusal, over};
 use calls::{KMAC, MAX_CUSTOMISATION, MAX_KEY, MAX_MESSAGE, MAX_NAME, MAX_OUTPUT};
 
-// 4 for the name of the standard's own function.
-fn reserved(name: &[u8]) -> u8
-    ensures { result ≡ cond (is_reserved name.now) reserved_name done }
+// What cSHAKE256 with this name and this customisation is refused for.
+pub fn check_named(name: &[u8], customisation: &[u8]) -> Result<(), Refusal>
+    ensures { result ≡ answered (start_refusal (named name.now customisation.now)) tt }
 {
-    if check::same(name, &KMAC) {
-        return RESERVED_NAME;
+    over(name.len(), MAX_NAME, Refusal::StringTooLong)?;
+    over(
+        customisation.len(),
+        MAX_CUSTOMISATION,
+        Refusal::StringTooLong,
+    )?;
+    if name == KMAC.as_slice() {
+        return Err(Refusal::ReservedName);
     }
-    DONE
+    Ok(())
 }
 
-// The number that cSHAKE256 with this name and this customisation is refused with, or 0.
-pub fn named_refusal(name: &[u8], customisation: &[u8]) -> u8
-    ensures { result ≡ start_refusal (named name.now customisation.now) }
+// What KMAC256 and KMACXOF256 with this key and this customisation are refused for.
+pub fn check_keyed(key: &[u8], customisation: &[u8]) -> Result<(), Refusal>
+    ensures { result ≡ answered (start_refusal (keyed key.now customisation.now)) tt }
 {
-    let long_name = over(name.len(), MAX_NAME, STRING_TOO_LONG);
-    let long_customisation = over(customisation.len(), MAX_CUSTOMISATION, STRING_TOO_LONG);
-    let known = reserved(name);
-    first_of(long_name, first_of(long_customisation, known))
+    over(key.len(), MAX_KEY, Refusal::BadKeyLength)?;
+    over(
+        customisation.len(),
+        MAX_CUSTOMISATION,
+        Refusal::StringTooLong,
+    )
 }
 
-// The number that KMAC256 and KMACXOF256 with this key and this customisation are refused with, or 0.
-pub fn keyed_refusal(key: &[u8], customisation: &[u8]) -> u8
-    ensures { result ≡ start_refusal (keyed key.now customisation.now) }
+// What an extendable function is refused for after its start: a message and an output of these lengths.
+pub fn check_extendable(message: usize, out: usize) -> Result<(), Refusal>
+    ensures { result ≡ answered (call_refusal KMACXOF256 done message out) tt }
 {
-    let long_key = over(key.len(), MAX_KEY, BAD_KEY_LENGTH);
-    let long_string = over(customisation.len(), MAX_CUSTOMISATION, STRING_TOO_LONG);
-    first_of(long_key, long_string)
-}
-
-// The number for a call of an extendable function: that of its start, then a message and an output of these lengths.
-pub fn extendable_refusal(start: u8, message: usize, out: usize) -> u8
-    ensures { result ≡ call_refusal KMACXOF256 start message out }
-{
-    let long_message = over(message, MAX_MESSAGE, INPUT_TOO_LONG);
-    let long_output = over(out, MAX_OUTPUT, BAD_OUTPUT_LENGTH);
-    first_of(start, first_of(long_message, long_output))
-}
-
-// 6 for an output of no bytes.
-fn empty(out: usize) -> u8
-    ensures { result ≡ cond (eqb out 0) bad_output_length done }
-{
-    if out == 0 {
-        return BAD_OUTPUT_LENGTH;
-    }
-    DONE
+    over(message, MAX_MESSAGE, Refusal::InputTooLong)?;
+    over(out, MAX_OUTPUT, Refusal::BadOutputLength)
 }
 
 // The same for KMAC256, which refuses an empty output too.
-pub fn kmac256_refusal(start: u8, message: usize, out: usize) -> u8
-    ensures { result ≡ call_refusal KMAC256 start message out }
+pub fn check_kmac256(message: usize, out: usize) -> Result<(), Refusal>
+    ensures { result ≡ answered (call_refusal KMAC256 done message out) tt }
 {
-    let lengths = extendable_refusal(start, message, out);
-    let none = empty(out);
-    first_of(lengths, none)
+    check_extendable(message, out)?;
+    if out == 0 {
+        return Err(Refusal::BadOutputLength);
+    }
+    Ok(())
 }

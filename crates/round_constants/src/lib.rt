@@ -16,6 +16,7 @@ const RC: [u8; 255] =
     \x01\x00\x00\x01\x00\x00\x01\x01\x00\x00\x00\x00\x00\x00\x01\x01\x01\x00\x01\x00\x00\x01\x00\x00\x00\x01\x01\x01\x00\x00\x00";
 
 // The bit rc(t), for every t.
+#[tactic(auto, using(crate::specs::Laws::RcBits::bits_are), unfolding(crate::specs::Laws::RcBits::bits, crate::specs::Laws::RcBits::bit_of))]
 pub fn rc(t: usize) -> u8
     ensures { result ≡ rc t }
 {
@@ -23,16 +24,17 @@ pub fn rc(t: usize) -> u8
 }
 
 // The constant of round i, for every i: bit 2^j - 1 is rc(j + 7 i), for j from 0 to 6. The bits have period 255, and so do the constants.
+#[tactic(auto, using(crate::specs::Laws::RoundConstants::assembled_is), unfolding(crate::specs::Laws::RoundConstants::assembled))]
 pub fn round_constant(i: usize) -> u64
     ensures { result ≡ round_constant i }
 {
     let t = 7 * (i % 255);
-    let b0 = rc(t) as u64;
-    let b1 = rc(t + 1) as u64;
-    let b2 = rc(t + 2) as u64;
-    let b3 = rc(t + 3) as u64;
-    let b4 = rc(t + 4) as u64;
-    let b5 = rc(t + 5) as u64;
-    let b6 = rc(t + 6) as u64;
+    let b0 = u64::from(rc(t));
+    let b1 = u64::from(rc(t + 1));
+    let b2 = u64::from(rc(t + 2));
+    let b3 = u64::from(rc(t + 3));
+    let b4 = u64::from(rc(t + 4));
+    let b5 = u64::from(rc(t + 5));
+    let b6 = u64::from(rc(t + 6));
     b0 | (b1 << 1) | (b2 << 3) | (b3 << 7) | (b4 << 15) | (b5 << 31) | (b6 << 63)
 }

@@ -15,10 +15,9 @@ use Rattle.calls.specs.Call.{KMACXOF256, kmacxof256, fed, ending}
 use Rattle.calls.specs.Count.{runs}
 use Rattle.calls.proofs.Laws.Runs.{runs_by_lengths}
 use Rattle.sponge.specs.Sponge.{sponge}
-use Rattle.sponge.specs.Running.{Running, running, finished, squeezed, after}
-use Rattle.sponge.proofs.Squeezing.{after_in}
+use Rattle.sponge.specs.Running.{Running, state_of, squeezed}
 use Rattle.sponge.proofs.Whole.{squeezed_take, squeezed_drop}
-use Rattle.start.specs.Started.{started, most_blocks, Starts}
+use Rattle.start.specs.Started.{start_state, most_blocks, StartedBy}
 use Rattle.start.proofs.Calls.{start_blocks_lem, call_output}
 use Rattle.aead.specs.Limits.{authentication_key_length, longest_tag}
 use Rattle.seal_calls.specs.declared.Stream.{Stream}
@@ -32,10 +31,10 @@ runs_bound = 2000000
 pub counts_fit : (r s : ℕ) → r ≤ runs_bound → s ≤ runs_bound → Fits w64 (r + s)
 counts_fit r s hr hs = omega arith
 
--- the key stream for a text of n bytes: its authentication key, and what the lanes give next
+-- the key stream for a text of n bytes: its authentication key, and what the sponge gives next
 pub record Streams (key iv : List ℕ) (n : ℕ) (r : Stream) : Type 0 where
   pub authentication : r.authentication ≡ take authentication_key_length (kmac_aead.key_stream key iv (authentication_key_length + n))
-  pub text : squeezed n (running r.lanes authentication_key_length)
+  pub text : squeezed n (state_of r.sponge)
       ≡ drop authentication_key_length (kmac_aead.key_stream key iv (authentication_key_length + n))
   pub runs : r.runs ≡ kmac_aead.stream_runs key iv (authentication_key_length + n)
   pub bounded : r.runs ≤ runs_bound
@@ -56,19 +55,19 @@ ended n = refl
 
 -- ---- an accepted call
 
-module _ (K S x : List ℕ) (ok : start_refusal (keyed K S) ≡ 0) (short : (started (keyed K S)).blocks ≤ most_blocks) where
-  own : Starts (keyed K S) (started (keyed K S))
+module _ (K S x : List ℕ) (ok : start_refusal (keyed K S) ≡ 0) (short : (start_state (keyed K S)).blocks ≤ most_blocks) where
+  own : StartedBy (keyed K S) (start_state (keyed K S))
   own = record { is = refl; bounded = short }
 
   xof_output : (n : ℕ) → squeezed n (xof_running K S x) ≡ sponge (fed (kmacxof256 K x n S)) n
   unfolding xof_running
   xof_output n =
-      call_output (kmacxof256 K x n S) (started (keyed K S)) (x ++ zero_code) n own ok (ap (λ (l : List ℕ). x ++ l) (ended n))
+      call_output (kmacxof256 K x n S) (start_state (keyed K S)) (x ++ zero_code) n own ok (ap (λ (l : List ℕ). x ++ l) (ended n))
 
   xof_counted : (n : ℕ) → xof_runs K S x n ≡ runs (kmacxof256 K x n S)
   unfolding xof_runs
   xof_counted n =
-      omega (arith, runs_by_lengths (kmacxof256 K x n S), start_blocks_lem (keyed K S) (started (keyed K S)) own ok, length-append x zero_code)
+      omega (arith, runs_by_lengths (kmacxof256 K x n S), start_blocks_lem (keyed K S) (start_state (keyed K S)) own ok, length-append x zero_code)
 
   xof_bounded : (n : ℕ) → length x ≤ max_message → n ≤ authentication_key_length + max_message → xof_runs K S x n ≤ runs_bound
   unfolding xof_runs
@@ -76,15 +75,8 @@ module _ (K S x : List ℕ) (ok : start_refusal (keyed K S) ≡ 0) (short : (sta
 
 -- ---- the key stream
 
--- the authentication key is within the first block: the lanes stand where they stood
-stands : (a : List ℕ) → running (after authentication_key_length (running a 0)).lanes authentication_key_length ≡ after authentication_key_length (running a 0)
-stands a =
-    let e : after authentication_key_length (running a 0) ≡ running a authentication_key_length = after_in authentication_key_length a 0 (omega arith) in
-    ap (λ (u : Running). running u.lanes authentication_key_length) e ∙ sym e
-
 pub streams : (key iv : List ℕ) (n : ℕ) (r : Stream) → Begins key iv n r → length key ≤ max_key → length iv ≤ max_customisation → n ≤ max_message
     → Streams key iv n r
-unfolding xof_running finished
 streams key iv n r b hk hs hn =
     let ok = keyed_accepted key iv hk hs in
     let u : Running = xof_running key iv [] in
@@ -95,8 +87,7 @@ streams key iv n r b hk hs hn =
           ap (λ (s : Stream). s.authentication) b.is
           ∙ sym (ap (take authentication_key_length) whole ∙ squeezed_take authentication_key_length n u);
       text =
-          ap (λ (s : Stream). squeezed n (running s.lanes authentication_key_length)) b.is
-          ∙ ap (squeezed n) (stands u.lanes)
+          ap (λ (s : Stream). squeezed n (state_of s.sponge)) b.is
           ∙ sym (ap (drop authentication_key_length) whole ∙ squeezed_drop authentication_key_length n u);
       runs = ap (λ (s : Stream). s.runs) b.is ∙ xof_counted key iv [] ok b.bounded all;
       bounded = omega (arith, ap (λ (s : Stream). s.runs) b.is, xof_bounded key iv [] ok b.bounded all (omega arith) (omega arith));

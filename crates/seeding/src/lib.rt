@@ -1,11 +1,12 @@
 // A seeding of a generator as the call that it is made of (cSHAKE-DRNG, 1.1.3, and KMAC-DRNG, 1.2.3; docs/RULES.md, 'Generators'): its definition and its laws
 // stand in specs/, and the code is which generators there are, and what a seeding of either is refused for.
-#![tactic(auto)]
+#![tactic(auto, using(answers::proofs::Turns::asked_in_turn), unfolding(crate::specs::Seeding::seed_lengths_refusal))]
 
 ghost use Rattle.std.specs.Prelude.{◌≡◌};
+ghost use Rattle.answers.specs.Done.{answered};
 ghost use Rattle.seeding.specs.Seeding.{seed_lengths_refusal};
 
-use answers::{DONE, INPUT_TOO_LONG, STRING_TOO_LONG};
+use answers::{Refusal, over};
 
 // The paper's two generators, by the function that each is made of.
 #[derive(Clone, Copy)]
@@ -21,15 +22,10 @@ pub const MAX_PERSONALISATION: usize = 84;
 
 pub const MAX_SEED: usize = 65536;
 
-// The number for a seed and a personalisation of these lengths: the smallest that applies.
-pub fn seed_refusal(seed: usize, personalisation: usize) -> u8
-    ensures { result ≡ seed_lengths_refusal seed personalisation }
+// What a seeding with a seed and a personalisation of these lengths is refused for.
+pub fn check_seeding(seed: usize, personalisation: usize) -> Result<(), Refusal>
+    ensures { result ≡ answered (seed_lengths_refusal seed personalisation) tt }
 {
-    if MAX_PERSONALISATION < personalisation {
-        return STRING_TOO_LONG;
-    }
-    if MAX_SEED < seed {
-        return INPUT_TOO_LONG;
-    }
-    DONE
+    over(personalisation, MAX_PERSONALISATION, Refusal::StringTooLong)?;
+    over(seed, MAX_SEED, Refusal::InputTooLong)
 }

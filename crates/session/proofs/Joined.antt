@@ -19,8 +19,8 @@ use Rattle.start.specs.Started.{after_prefix, started}
 use Rattle.session_state.specs.declared.Phase.TheVariants.{Taking}
 use Rattle.session_state.specs.declared.Session.{Session}
 use Rattle.session_state.specs.Session.{session_answer, initial, started_session, is_kmac, begun, input_end}
-use Rattle.session.specs.History.{SessionCall, session_after, accepted_pieces, output}
-use Rattle.session.specs.Joined.{JoinedBytes, JoinedBytesRule}
+use Rattle.session.specs.History.{session_after, accepted_pieces, output}
+use Rattle.session.specs.Joined.{JoinedBytesRule}
 use Rattle.session.proofs.EmptyPiece.{Regular, stays_regular, empty_piece_lem}
 use Rattle.session.proofs.Totals.{takes_within, gives_within}
 use Rattle.session.proofs.Given.{source_after, gives_joined}

@@ -1,7 +1,7 @@
 -- Calls in a row on one session, accepted and refused: their numbers, the accepted pieces, joined, and the bytes given, joined.
-use Rattle.std.specs.Prelude.{Bool, true, cond, List, [], ◌∷◌, ◌++◌, ℕ, ◌+◌, ltb, length}
+use Rattle.std.specs.Prelude.{Bool, true, cond, List, [], ◌∷◌, ◌++◌, ℕ, ◌+◌, ltb, length, is_ok}
 use Rattle.answers.specs.Numbers.{done, wrong_state, input_too_long, bad_output_length}
-use Rattle.answers.specs.Done.{if_done}
+use Rattle.answers.specs.Done.{answer_number}
 use Rattle.calls.specs.Limits.{max_message, max_output}
 use Rattle.session_state.specs.declared.Session.{Session}
 use Rattle.session_state.specs.declared.SessionAnswer.{SessionAnswer}
@@ -33,17 +33,17 @@ session_after s (c ∷ cs) = session_after (called s c).session cs
 
 unfoldable pub numbers : Session → List SessionCall → List ℕ
 numbers s [] = []
-numbers s (c ∷ cs) = (called s c).number ∷ numbers (called s c).session cs
+numbers s (c ∷ cs) = answer_number (called s c).answer ∷ numbers (called s c).session cs
 
 -- the accepted pieces, joined: a refused call counts for nothing
 unfoldable pub accepted_pieces : Session → List SessionCall → List ℕ
 accepted_pieces s [] = []
-accepted_pieces s (c ∷ cs) = if_done (called s c).number (piece_of c) [] ++ accepted_pieces (called s c).session cs
+accepted_pieces s (c ∷ cs) = cond (is_ok (called s c).answer) (piece_of c) [] ++ accepted_pieces (called s c).session cs
 
 -- the bytes given, joined
 unfoldable pub output : Session → List SessionCall → List ℕ
 output s [] = []
-output s (c ∷ cs) = if_done (called s c).number (given_by s c) [] ++ output (called s c).session cs
+output s (c ∷ cs) = cond (is_ok (called s c).answer) (given_by s c) [] ++ output (called s c).session cs
 
 -- The table's numbers (docs/RULES.md, 'Numbers') for calls in a row, by what was accepted before: whether the session is giving, for which
 -- an ask for no bytes is enough, and the totals taken and given.

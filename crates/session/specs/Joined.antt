@@ -1,6 +1,7 @@
 -- The joined-bytes rule (docs/RULES.md, 'Sessions'): 'for any order of calls from an accepted start, the bytes given, joined, are the first bytes of
 -- the one-shot answer over the accepted pieces, joined'. It is proved in proofs/Joined.antt.
 use Rattle.std.specs.Prelude.{false, ◌≡◌, List, [], ℕ, ◌≤◌, length, take}
+use Rattle.answers.specs.Done.{answer_number}
 use Rattle.calls.specs.Start.{Start, start_refusal}
 use Rattle.calls.specs.Call.{Accepted, fed, extendable_call}
 use Rattle.sponge.specs.Sponge.{sponge}
@@ -16,7 +17,7 @@ joined_output s cs = output (begun s).session cs
 
 pub record JoinedBytes (s : Start) (cs : List SessionCall) : Type 0 where
   -- the start is answered with 0
-  pub started : (begun s).number ≡ 0
+  pub started : answer_number (begun s).answer ≡ 0
   -- and each call with the table's number
   pub numbered : numbers (begun s).session cs ≡ table_numbers false 0 0 cs
   -- an empty piece after them changes nothing

@@ -1,5 +1,5 @@
 // Running sessions over cSHAKE256 and KMACXOF256 (docs/RULES.md, 'Sessions'): the message taken in pieces, then the output given in portions.
-// A session is passed by value and handed back with the number of the table; a refusal hands back the same session and writes nothing.
+// A session is passed by value and handed back with what the call came to; a refusal hands back the same session and writes nothing.
 // The entries, under one name; what holds of calls in a row, accepted and refused, is stated in specs/.
 #![tactic(auto)]
 

@@ -1,5 +1,5 @@
 // A session begins (docs/RULES.md, 'Sessions'): cSHAKE256 by its name and customisation, KMACXOF256 by its key and customisation.
-#![tactic(auto)]
+#![tactic(auto, unfolding(session_state::specs::Session::begun))]
 
 ghost use Rattle.std.specs.Prelude.{◌≡◌};
 ghost use Rattle.calls.specs.Start.{named, keyed};

@@ -1,8 +1,10 @@
 -- Running sessions (docs/RULES.md, 'Sessions'): what each call hands back, as a function of the session's value.
 -- Of a session that a caller made up by hand docs/RULES.md leaves the result free. Here it is fixed all the same: a position at which the block is full, or
 -- beyond, is taken modulo the rate by a taking session and followed by the next block in a giving one; totals and limit are compared as they stand.
-use Rattle.std.specs.Prelude.{Bool, true, false, cond, List, [], ℕ, ◌+◌, ◌%◌, ltb, eqb, length, replicate}
+use Rattle.std.specs.Prelude.{Bool, true, false, cond, List, [], ℕ, ◌+◌, ◌%◌, ltb, length, replicate, Result, Ok, Err}
 use Rattle.answers.specs.Numbers.{done, wrong_state, input_too_long, bad_output_length}
+use Rattle.answers.specs.declared.Refusal.{Refusal}
+use Rattle.answers.specs.Done.{answered}
 use Rattle.encode.specs.Padding.{rate}
 use Rattle.encode.specs.Encode.{right_encode}
 use Rattle.calls.specs.Limits.{max_message, max_output}
@@ -15,8 +17,9 @@ use Rattle.session_state.specs.declared.Phase.TheVariants.{Taking, Giving}
 use Rattle.session_state.specs.declared.Session.{Session}
 use Rattle.session_state.specs.declared.SessionAnswer.{SessionAnswer}
 
+-- by the number of a call
 abbrev pub session_answer : ℕ → Session → SessionAnswer
-session_answer k s = record { number = k; session = s }
+session_answer k s = record { answer = answered k (tt {0}); session = s }
 
 -- Start
 
@@ -46,8 +49,9 @@ unstarted =
       kmac = false;
     }
 
-unfoldable pub started_session : Started → Bool → SessionAnswer
-started_session t k = cond (eqb t.number 0) (session_answer done (initial t k)) (session_answer t.number unstarted)
+unfoldable pub started_session : Result Started Refusal → Bool → SessionAnswer
+started_session (Ok t) k = session_answer done (initial t k)
+started_session (Err e) k = record { answer = Err e; session = unstarted }
 
 -- whether right_encode(0) follows the message
 abbrev pub is_kmac : Start → Bool

@@ -1,21 +1,22 @@
 // A running session over cSHAKE256 or KMACXOF256 (docs/RULES.md, 'Sessions'), passed by value: what each call on it hands back is defined here
 // (specs/Session.antt), and the session that a start hands back is made.
-#![tactic(auto)]
+#![tactic(auto, unfolding(crate::specs::Session::started_session))]
 
 ghost use Rattle.std.specs.Prelude.{◌≡◌};
 ghost use Rattle.session_state.specs.Session.{started_session};
 
-use answers::DONE;
+use answers::Refusal;
 use calls::MAX_OUTPUT;
 use start::Started;
 
-// Taking the message, or giving output, with the position of the next byte in the block.
+// Taking the message, or giving output, with the position of the next byte in the block: two states of a session, neither of which is a failure.
 #[derive(Clone, Copy)]
 pub enum Phase {
     Taking(usize),
     Giving(usize),
 }
 
+// Plain values that go in and come back: C lends any of them, and every one is answered.
 #[derive(Clone, Copy)]
 pub struct Session {
     pub lanes: [u64; 25],
@@ -31,43 +32,47 @@ pub struct Session {
     pub kmac: bool,
 }
 
-// What a call hands back: its number and the session after it.
+// What a call hands back: whether it was done or what it is refused for, and the session after it.
 #[derive(Clone, Copy)]
 pub struct SessionAnswer {
-    pub number: u8,
+    pub answer: Result<(), Refusal>,
     pub session: Session,
 }
 
-// The session of a start. A refused start hands back a fresh session that is giving and has nothing to give.
-pub fn start_session(start: Started, kmac: bool) -> SessionAnswer
+// A session that could not start: it is giving, and has nothing to give.
+const UNSTARTED: Session = Session {
+    lanes: [0u64; 25],
+    phase: Phase::Giving(0),
+    taken: 0,
+    given: 0,
+    limit: 0,
+    suffix: 0,
+    kmac: false,
+};
+
+// The session of a start.
+pub fn start_session(start: Result<Started, Refusal>, kmac: bool) -> SessionAnswer
     ensures { result ≡ started_session start kmac }
 {
-    let number = start.number;
-    if number != DONE {
-        return SessionAnswer {
-            number,
-            session: Session {
-                lanes: [0u64; 25],
-                phase: Phase::Giving(0),
-                taken: 0,
-                given: 0,
-                limit: 0,
-                suffix: 0,
-                kmac: false,
-            },
-        };
-    }
-    let lanes = start.lanes;
-    SessionAnswer {
-        number: DONE,
-        session: Session {
-            lanes,
-            phase: Phase::Taking(0),
-            taken: 0,
-            given: 0,
-            limit: MAX_OUTPUT,
-            suffix: start.suffix,
-            kmac,
+    match start {
+        Ok(started) => {
+            let lanes = started.lanes;
+            SessionAnswer {
+                answer: Ok(()),
+                session: Session {
+                    lanes,
+                    phase: Phase::Taking(0),
+                    taken: 0,
+                    given: 0,
+                    limit: MAX_OUTPUT,
+                    suffix: started.suffix,
+                    kmac,
+                },
+            }
+        }
+        Err(refusal) => SessionAnswer {
+            answer: Err(refusal),
+            session: UNSTARTED,
         },
     }
 }

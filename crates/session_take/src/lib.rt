@@ -1,42 +1,41 @@
 // A session takes the message, in pieces (docs/RULES.md, 'Sessions').
-#![tactic(auto)]
+#![tactic(auto, unfolding(session_state::specs::Session::taking_in))]
 
 ghost use Rattle.std.specs.Prelude.{◌≡◌};
 ghost use Rattle.session_state.specs.Session.{taking};
 
-use answers::{DONE, INPUT_TOO_LONG, WRONG_STATE, over_total};
+use answers::{Refusal, over_total};
 use calls::MAX_MESSAGE;
 use session_state::{Phase, Session, SessionAnswer};
-use sponge::absorb;
+use sponge::Sponge;
 
 // A piece of the message. Refusals: 1 where the session is giving, 5 where the total with this piece exceeds the limit.
 pub fn take(s: Session, piece: &[u8]) -> SessionAnswer
     ensures { result ≡ taking s piece.now }
 {
-    let phase = s.phase;
-    let Phase::Taking(at) = phase else {
+    let Phase::Taking(position) = s.phase else {
         return SessionAnswer {
-            number: WRONG_STATE,
+            answer: Err(Refusal::WrongState),
             session: s,
         };
     };
-    let taken = s.taken;
-    let number = over_total(taken, piece.len(), MAX_MESSAGE, INPUT_TOO_LONG);
-    if number != DONE {
-        return SessionAnswer { number, session: s };
+    if let Err(refusal) = over_total(s.taken, piece.len(), MAX_MESSAGE, Refusal::InputTooLong) {
+        return SessionAnswer {
+            answer: Err(refusal),
+            session: s,
+        };
     }
-    let mut lanes = s.lanes;
-    let position = absorb(&mut lanes, at, piece);
+    let lanes = s.lanes;
+    let mut sponge = Sponge { lanes, position };
+    sponge.absorb(piece);
+    let lanes = sponge.lanes;
     SessionAnswer {
-        number: DONE,
+        answer: Ok(()),
         session: Session {
             lanes,
-            phase: Phase::Taking(position),
-            taken: taken + piece.len(),
-            given: s.given,
-            limit: s.limit,
-            suffix: s.suffix,
-            kmac: s.kmac,
+            phase: Phase::Taking(sponge.position),
+            taken: s.taken + piece.len(),
+            ..s
         },
     }
 }

@@ -13,13 +13,13 @@ use Rattle.encode.specs.Padding.{rate, whole_blocks}
 use Rattle.blocks_in.specs.Blocks.{absorb}
 use Rattle.sponge.specs.Running.{Running, running, absorb_byte, absorbed}
 
-pub absorb_byte-in : (a : List ℕ) (p b : ℕ) → p < rate - 1 → absorb_byte (running a p) b ≡ running (xor_byte a p b) (p + 1)
+pub absorb_byte_in : (a : List ℕ) (p b : ℕ) → p < rate - 1 → absorb_byte (running a p) b ≡ running (xor_byte a p b) (p + 1)
 unfolding absorb_byte
-absorb_byte-in a p b h = rw (lt-ltb p (rate - 1) h)
+absorb_byte_in a p b h = rw (lt-ltb p (rate - 1) h)
 
-pub absorb_byte-last : (a : List ℕ) (p b : ℕ) → rate - 1 ≤ p → absorb_byte (running a p) b ≡ running (keccak_p (xor_byte a p b)) 0
+pub absorb_byte_last : (a : List ℕ) (p b : ℕ) → rate - 1 ≤ p → absorb_byte (running a p) b ≡ running (keccak_p (xor_byte a p b)) 0
 unfolding absorb_byte
-absorb_byte-last a p b h = rw (le-ltb p (rate - 1) h)
+absorb_byte_last a p b h = rw (le-ltb p (rate - 1) h)
 
 pub absorbed_append : (s : Running) (xs ys : List ℕ) → absorbed s (xs ++ ys) ≡ absorbed (absorbed s xs) ys
 unfolding absorbed
@@ -31,7 +31,7 @@ pub absorbed_in : (bs a : List ℕ) (p : ℕ) → p + length bs < rate → absor
 unfolding absorbed xor_bytes
 absorbed_in [] a p h = ap (running a) (sym (add-zero p))
 absorbed_in (b ∷ bs) a p h =
-    ap (λ (s : Running). absorbed s bs) (absorb_byte-in a p b (omega arith))
+    ap (λ (s : Running). absorbed s bs) (absorb_byte_in a p b (omega arith))
     ∙ absorbed_in bs (xor_byte a p b) (p + 1) (omega arith)
     ∙ ap (running (xor_bytes (xor_byte a p b) (p + 1) bs)) (omega arith)
 
@@ -39,9 +39,9 @@ absorbed_in (b ∷ bs) a p h =
 pub absorbed_block : (bs a : List ℕ) (p : ℕ) → p < rate → p + length bs ≡ rate → absorbed (running a p) bs ≡ running (keccak_p (xor_bytes a p bs)) 0
 unfolding absorbed xor_bytes
 absorbed_block [] a p k h = absurd (omega arith)
-absorbed_block (b ∷ []) a p k h = absorb_byte-last a p b (omega arith)
+absorbed_block (b ∷ []) a p k h = absorb_byte_last a p b (omega arith)
 absorbed_block (b ∷ (d ∷ bs)) a p k h =
-    ap (λ (s : Running). absorbed s (d ∷ bs)) (absorb_byte-in a p b (omega arith))
+    ap (λ (s : Running). absorbed s (d ∷ bs)) (absorb_byte_in a p b (omega arith))
     ∙ absorbed_block (d ∷ bs) (xor_byte a p b) (p + 1) (omega arith) (omega arith)
 
 -- n whole blocks: the definition by blocks

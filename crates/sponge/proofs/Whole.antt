@@ -18,7 +18,7 @@ use Rattle.blocks_out.specs.Blocks.{squeeze}
 use Rattle.sponge.specs.Sponge.{sponge}
 use Rattle.sponge.specs.Same.{SameSponge}
 use Rattle.sponge.specs.Running.{Running, running, fresh, absorbed, finished, squeezed, after}
-use Rattle.sponge.proofs.Absorbing.{absorb_byte-in, absorb_byte-last, absorbed_append, absorbed_block, absorbed_blocks}
+use Rattle.sponge.proofs.Absorbing.{absorb_byte_in, absorb_byte_last, absorbed_append, absorbed_block, absorbed_blocks}
 use Rattle.sponge.proofs.Squeezing.{squeezed_add, length_squeezed, squeezed_in, after_in, squeezed_next}
 
 -- ---- the position
@@ -27,10 +27,10 @@ pub absorbed_position : (bs a : List ℕ) (p : ℕ) → p < rate → (absorbed (
 unfolding absorbed
 absorbed_position [] a p h = omega arith
 absorbed_position (b ∷ bs) a p h = elim (dec_le (rate - 1) p) [
-  | yes k ↦ ap (λ (s : Running). (absorbed s bs).position) (absorb_byte-last a p b k)
+  | yes k ↦ ap (λ (s : Running). (absorbed s bs).position) (absorb_byte_last a p b k)
       ∙ absorbed_position bs (keccak_p (xor_byte a p b)) 0 (omega arith)
       ∙ omega arith
-  | no k ↦ ap (λ (s : Running). (absorbed s bs).position) (absorb_byte-in a p b (omega arith))
+  | no k ↦ ap (λ (s : Running). (absorbed s bs).position) (absorb_byte_in a p b (omega arith))
       ∙ absorbed_position bs (xor_byte a p b) (p + 1) (omega arith)
       ∙ ap (λ (x : ℕ). x % rate) (omega arith)
 ]

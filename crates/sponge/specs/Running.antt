@@ -5,6 +5,7 @@ use Rattle.std.specs.Prelude.{cond, List, [], ◌∷◌, ℕ, zero, suc, ◌+◌
 use Rattle.fips202.specs.Fips202.{keccak_p}
 use Rattle.fips202.specs.Bytes.{xor_byte, byte_at}
 use Rattle.encode.specs.Padding.{rate}
+use Rattle.sponge.specs.declared.Sponge.{Sponge}
 
 pub record Running : Type 0 where
   pub lanes : List ℕ
@@ -12,6 +13,10 @@ pub record Running : Type 0 where
 
 abbrev pub running : List ℕ → ℕ → Running
 running a p = record { lanes = a; position = p }
+
+-- where the code's sponge stands
+abbrev pub state_of : Sponge → Running
+state_of s = running s.lanes s.position
 
 -- before any input
 abbrev pub fresh : Running

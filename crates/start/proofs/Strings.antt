@@ -1,7 +1,7 @@
 -- An encoded string, and strings padded to whole blocks, put into the sponge by calls in a row.
 use mathlib.Core.Path.{◌≡◌, refl, sym, ap, ◌∙◌}
 use mathlib.Core.List.{List, [], ◌∷◌, ◌++◌, append_assoc}
-use Prim.Native.Nat.{ℕ, ◌+◌, ◌-◌, ◌*◌, ◌/◌, ◌%◌, ◌≤◌, ◌<◌}
+use Prim.Native.Nat.{ℕ, ◌+◌, ◌-◌, ◌*◌, ◌%◌, ◌≤◌, ◌<◌}
 use native.Mathlib.Omega.{arith}
 use borrow.Author.Rules.{rules}
 use lib.ListN.{length, replicate}
@@ -12,22 +12,16 @@ use Rattle.encode.specs.Padding.{rate, pad_to, shortfall}
 use Rattle.encode.specs.Encode.{big_endian, left_encode, encode_string, bytepad, KMAC}
 use Rattle.encode.specs.Laws.Bytes.{Bytes}
 use Rattle.encode.proofs.Laws.Bytes.{append_bytes, left_encode-bytes, digits_number_of}
-use Rattle.encode.proofs.Laws.Lengths.{length_bytepad}
 use Rattle.sponge.specs.Running.{Running, running, absorbed}
-use Rattle.sponge.proofs.Absorbing.{absorbed_append, absorbed_in}
-use Rattle.sponge.proofs.Chain.{start_absorb, then_absorb_counted, then_zeros}
-use Rattle.start.specs.Prefix.{longest_string}
+use Rattle.sponge.proofs.Absorbing.{absorbed_in}
+use Rattle.sponge.proofs.Chain.{then_absorbed, then_padded}
+use Rattle.start.specs.Limits.{longest_string}
 
 -- left_encode of the string's bits, then the string
-pub string_absorbed : (a b c code s : List ℕ) (total n p q : ℕ) → code ≡ left_encode (8 * length s) → n ≡ length code
-    → running b p ≡ absorbed (running a (total % rate)) code → running c q ≡ absorbed (running b ((total + n) % rate)) s
-    → running c ((total + n + length s) % rate) ≡ absorbed (running a (total % rate)) (encode_string s)
+pub string_absorbed : (s : Running) (b c code l : List ℕ) (p q : ℕ) → code ≡ left_encode (8 * length l) → p < rate → running b p ≡ absorbed s code
+    → running c q ≡ absorbed (running b (p % rate)) l → running c q ≡ absorbed s (encode_string l)
 unfolding encode_string
-string_absorbed a b c code s total n p q is counted first second =
-    let from : Running = running a (total % rate) in
-    let e : running b ((total + n) % rate) ≡ absorbed from code
-    = ap (λ (k : ℕ). running b ((total + k) % rate)) counted ∙ then_absorb_counted from a b [] code total p (start_absorb from) first in
-    then_absorb_counted from b c code s (total + n) q e second ∙ ap (λ (l : List ℕ). absorbed from (l ++ s)) is
+string_absorbed s b c code l p q is h first second = then_absorbed s b c code p q h first l second ∙ ap (λ (x : List ℕ). absorbed s (x ++ l)) is
 
 -- ---- bytes put in as the number of a lane
 
@@ -45,20 +39,19 @@ number_absorbed l a b i w bytes h room is e =
     ∙ xor_bytes-zeros (8 - length l) (xor_bytes a (8 * i) l) (8 * i + length l))
     ∙ sym (absorbed_in l a (8 * i) room)
 
--- the bytes h and left_encode of a string's bits in lane i, then the string; n counts up to it
+-- the bytes h and left_encode of a string's bits in lane i, then the string, at the position n after them
 pub headed_absorbed : (a b c h s : List ℕ) (i w n q : ℕ) → Bytes h → length s ≤ longest_string → length (h ++ left_encode (8 * length s)) ≤ 8 → i ≤ 1
     → w ≡ number_of 256 (h ++ left_encode (8 * length s)) → n ≡ 8 * i + length (h ++ left_encode (8 * length s))
     → b ≡ xor_bytes a (8 * i) (digits 256 8 w) → running c q ≡ absorbed (running b (n % rate)) s
-    → running c ((n + length s) % rate) ≡ absorbed (running a (8 * i)) (h ++ encode_string s)
+    → running c q ≡ absorbed (running a (8 * i)) (h ++ encode_string s)
 unfolding encode_string
 headed_absorbed a b c h s i w n q bytes short fits place is counted first second =
     let code : List ℕ = left_encode (8 * length s) in
     let from : Running = running a (8 * i) in
-    let k : n % rate ≡ 8 * i + length (h ++ code) = omega (arith, counted) in
-    let head : running b (n % rate) ≡ absorbed from (h ++ code)
-    = ap (running b) k
+    let head : running b n ≡ absorbed from (h ++ code)
+    = ap (running b) counted
     ∙ number_absorbed (h ++ code) a b i w (append_bytes h code bytes (left_encode-bytes (8 * length s) (omega arith))) fits (omega arith) is first in
-    then_absorb_counted from b c (h ++ code) s n q head second ∙ ap (absorbed from) (append_assoc h code s)
+    then_absorbed from b c (h ++ code) n q (omega (arith, counted)) head s second ∙ ap (absorbed from) (append_assoc h code s)
 
 -- left_encode of the rate
 abbrev pub encoded_rate : List ℕ
@@ -83,23 +76,12 @@ kmac_absorbed a b e =
 -- ---- strings padded to whole blocks
 
 -- two strings in a row
-pub joined_strings : (a b c x y : List ℕ) (p q : ℕ) → running b p ≡ absorbed (running a 0) (left_encode rate ++ x) → running c q ≡ absorbed (running b p) y
-    → running c q ≡ absorbed (running a 0) (left_encode rate ++ (x ++ y))
-joined_strings a b c x y p q first second =
-    second
-    ∙ ap (λ (u : Running). absorbed u y) first
-    ∙ sym (absorbed_append (running a 0) (left_encode rate ++ x) y)
-    ∙ ap (absorbed (running a 0)) (append_assoc (left_encode rate) x y)
+pub joined_strings : (a b c x y : List ℕ) (p q : ℕ) → p < rate → running b p ≡ absorbed (running a 0) (left_encode rate ++ x)
+    → running c q ≡ absorbed (running b (p % rate)) y → running c q ≡ absorbed (running a 0) (left_encode rate ++ (x ++ y))
+joined_strings a b c x y p q h first second =
+    then_absorbed (running a 0) b c (left_encode rate ++ x) p q h first y second ∙ ap (absorbed (running a 0)) (append_assoc (left_encode rate) x y)
 
-module _ (a c d x : List ℕ) (total : ℕ) (counted : total ≡ 2 + length x) (all : running c (total % rate) ≡ absorbed (running a 0) (left_encode rate ++ x))
-    (third : running d 0 ≡ absorbed (running c (total % rate)) (replicate ((rate - total % rate) % rate) 0)) where
-  pub padded_lanes : running d 0 ≡ absorbed (running a 0) (bytepad x rate)
-  unfolding bytepad pad_to
-  padded_lanes =
-      let from : Running = running a 0 in
-      let n : total ≡ length (left_encode rate ++ x) = rw rate_encoded (omega arith) in
-      then_zeros from c d (left_encode rate ++ x) total all third
-      ∙ ap (λ (k : ℕ). absorbed from ((left_encode rate ++ x) ++ replicate (shortfall rate k) 0)) n
-
-  pub padded_blocks : (total + rate - 1) / rate ≡ length (bytepad x rate) / rate
-  padded_blocks = omega (arith, length_bytepad x)
+pub padded : (a c d x : List ℕ) (p q : ℕ) → p < rate → running c p ≡ absorbed (running a 0) (left_encode rate ++ x)
+    → running d q ≡ absorbed (running c (p % rate)) (replicate (shortfall rate p) 0) → running d q ≡ absorbed (running a 0) (bytepad x rate)
+unfolding bytepad pad_to
+padded a c d x p q h all last = then_padded (running a 0) c d (left_encode rate ++ x) p q h all refl last

@@ -2,15 +2,12 @@
 use Rattle.std.specs.Prelude.{◌≡◌, List, ℕ, ◌/◌, ◌≤◌, length}
 use Rattle.encode.specs.Padding.{rate}
 use Rattle.encode.specs.Encode.{bytepad}
-use Rattle.calls.specs.Limits.{max_customisation}
-use Rattle.sponge.specs.Running.{running, absorbed}
+use Rattle.sponge.specs.declared.Sponge.{Sponge}
+use Rattle.sponge.specs.Running.{running, state_of, absorbed}
 
--- names, customisations and keys have one limit
-abbrev pub longest_string : ℕ
-longest_string = max_customisation
-
--- from the lanes a to the lanes b, in r blocks
-pub record Padded (x a b : List ℕ) (r : ℕ) : Type 0 where
-  pub lanes : running b 0 ≡ absorbed (running a 0) (bytepad x rate)
+-- from the lanes of s to the sponge t, in r blocks
+pub record Padded (x : List ℕ) (s t : Sponge) (r : ℕ) : Type 0 where
+  pub is : state_of t ≡ absorbed (running s.lanes 0) (bytepad x rate)
+  pub begins : t.position ≡ 0
   pub blocks : r ≡ length (bytepad x rate) / rate
   pub bounded : r ≤ 64

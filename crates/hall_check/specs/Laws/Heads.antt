@@ -30,8 +30,8 @@ stands levels chutes at k v mid (e ∷ l) t q = go (kind_allowed levels chutes e
     go true false ea eb p = let z : ◌≡◌ {A = ℕ} 0 1 = cc in absurd (omega arith)
     go false b ea eb p = let z : ◌≡◌ {A = ℕ} 0 1 = cc in absurd (omega arith)
 
-pub list_heads : (l : List Entry) (levels chutes at : ℕ) → at ≤ length l → HeadAfter l levels chutes at (list_head levels chutes at (drop at l))
-list_heads l levels chutes at h = go (list_head levels chutes at (drop at l)) refl
+pub list_heads : (l : List Entry) (levels chutes at : ℕ) → HeadAfter l levels chutes at (list_head levels chutes at (drop at l))
+list_heads l levels chutes at = go (list_head levels chutes at (drop at l)) refl
   where
     go : (r : Head Entry) → list_head levels chutes at (drop at l) ≡ r → HeadAfter l levels chutes at r
     go (first k v mid t) q =

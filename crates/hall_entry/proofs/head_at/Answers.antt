@@ -1,24 +1,20 @@
--- The entry hangs on the number of its kind, by the definition's own cases: a kind that may stand here, with its value; any other kind; no number.
-use Rattle.std.proofs.Common.{◌≡◌, sym, ◌∙◌, true, ◌%◌, arith}
-use Rattle.hall_entry.specs.Entries.{kind_allowed}
-use Rattle.hall_entry.specs.Laws.Heads.{kind_known}
-use Rattle.hall_entry.proofs.Answers.{answers_as, as_read}
+-- The entry hangs on the number of its kind: none, one that may not stand here, and one that may, with its value.
+use Rattle.std.proofs.lemmas.Result.{err_from_is_err_and}
+use Rattle.hall_entry.proofs.Answers.{no_kind, other_kind, allowed}
 use Rattle.hall_entry.proofs.head_at.Goals as goal
 
-pub returns-then-kind_allowed : goal.returns-then-kind_allowed
-returns-then-kind_allowed c =
+pub returns-in_err-value : goal.returns-in_err-value
+returns-in_err-value c =
     let a = c.args in
-    let k = c.in-Value.value in
-    let ok : kind_allowed a.levels a.chutes k ≡ true = sym c.kind_allowed.ensures ∙ c.if-kind_allowed.true in
-    let same : k % 256 ≡ k = omega (arith, (kind_known a.levels a.chutes k ok).small) in
-    answers_as _ _
-    (c.entry_of_kind.ensures ∙ (rw (same, ok)) ∙ as_read a.plan.now a.levels a.chutes a.at _ _ c.number_at.ensures.answer c.in-Value.is)
+    let p = err_from_is_err_and c.from_residual.result c.from_residual.ensures.1 in
+    rw (p.1, p.2) (no_kind a.plan.now a.levels a.chutes a.at _ c.in_err-value.ensures)
 
-pub returns-else-kind_allowed : goal.returns-else-kind_allowed
-returns-else-kind_allowed c =
+pub returns-in-Some : goal.returns-in-Some
+returns-in-Some c =
     let a = c.args in
-    answers_as _ _
-    ((rw (sym c.kind_allowed.ensures ∙ c.if-kind_allowed.false)) ∙ as_read a.plan.now a.levels a.chutes a.at _ _ c.number_at.ensures.answer c.in-Value.is)
+    allowed a.plan.now a.levels a.chutes a.at _ c.in_ok-value.ensures c.in-Some.kind _ c.in-Some.ensures c.entry_of_kind.ensures
 
-pub returns-in-Bad : goal.returns-in-Bad
-returns-in-Bad c = answers_as _ _ (as_read c.args.plan.now c.args.levels c.args.chutes c.args.at _ _ c.number_at.ensures.answer c.in-Bad.is)
+pub returns-in-None : goal.returns-in-None
+returns-in-None c =
+    let a = c.args in
+    other_kind a.plan.now a.levels a.chutes a.at _ c.in_ok-value.ensures c.in-None.ensures

@@ -1,4 +1,4 @@
--- Laws of an entry in bytes: the entry that stands first at a place inside the plan ends inside it.
+-- Laws of an entry in bytes: the entry that stands first at a place of the plan ends inside it.
 use Rattle.std.specs.Prelude.{◌≡◌, refl, List, Bool, true, false, cond, ℕ, ◌+◌, ◌≤◌, length, drop}
 use Rattle.std.proofs.Common.{arith, length-drop}
 use Rattle.answers.specs.Breaches.{place_of}
@@ -21,8 +21,8 @@ module _ (s : List ℕ) where
   NumberAfter at (value v next rest) = NumberInside at v next rest
   NumberAfter at (bad place) = Unit
 
-  pub number_inside : (at : ℕ) → at ≤ length s → NumberAfter at (plan_number at (drop at s))
-  number_inside at h = go (plan_number at (drop at s)) (groups_used true 2 at (drop at s)) (groups_rest true 2 at s)
+  pub number_inside : (at : ℕ) → NumberAfter at (plan_number at (drop at s))
+  number_inside at = go (plan_number at (drop at s)) (groups_used true 2 at (drop at s)) (groups_rest true 2 at s)
     where
       go : (p : Parsed) → Used true 2 at (drop at s) p → Rest at s p → NumberAfter at p
       go (value v next rest) u r =
@@ -46,10 +46,10 @@ module _ (s : List ℕ) where
       go : (b : Bool) → kind_allowed levels chutes k ≡ b
           → HeadAfter s levels chutes at (cond b (valued k (plan_number next (drop next s))) (wrong (place_of (kind_breach at k))))
       go true e =
-          valued_inside levels chutes at k next (plan_number next (drop next s)) (kind_known levels chutes k e) u.past (number_inside next u.inside)
+          valued_inside levels chutes at k next (plan_number next (drop next s)) (kind_known levels chutes k e) u.past (number_inside next)
       go false e = tt
   judged_inside levels chutes at (bad place) u = tt
 
-  pub byte_heads : (levels chutes at : ℕ) → at ≤ length s → HeadAfter s levels chutes at (byte_head levels chutes at (drop at s))
+  pub byte_heads : (levels chutes at : ℕ) → HeadAfter s levels chutes at (byte_head levels chutes at (drop at s))
   unfolding byte_head
-  byte_heads levels chutes at h = judged_inside levels chutes at (plan_number at (drop at s)) (number_inside at h)
+  byte_heads levels chutes at = judged_inside levels chutes at (plan_number at (drop at s)) (number_inside at)

@@ -1,44 +1,22 @@
--- The summary says whether the plan is refused; lists of another length are refused before the first store; else the stores are the entries.
-use Rattle.std.proofs.Common.{sym, subst, ◌∙◌, arith}
-use Rattle.hall.specs.declared.HallSummary.{HallSummary}
-use Rattle.hall_lists.specs.Lists.{FillsLists}
-use Rattle.hall_lists.proofs.Into.{into_refused, into_accepted, into_kinds, into_values, into_filled}
+-- What is answered of the plan says whether it is refused; lists of another length are refused before the first store; else the stores are the entries.
+use Rattle.std.proofs.lemmas.Result.{err_from_is_err_and}
+use Rattle.hall_lists.proofs.Into.{read_refused, other_kinds, other_values, room, filled}
 use Rattle.hall_lists.proofs.read_into.Goals as goal
 
-pub returns-then-summary-ne-DONE : goal.returns-then-summary-ne-DONE
-returns-then-summary-ne-DONE c =
-    let a = c.args in
-    let r = c.read_halls-summary in
-    into_refused a.plan.now a.kinds.now a.values.now r.result r.ensures c.if-summary-ne-DONE.true
+pub returns-in_err-counts : goal.returns-in_err-counts
+returns-in_err-counts c =
+    let p = err_from_is_err_and c.from_residual.result c.from_residual.ensures.1 in
+    rw (p.1, p.2) (read_refused _ _ _ _ c.in_err-counts.ensures)
 
-pub returns-then-kinds-entries : goal.returns-then-kinds-entries
-returns-then-kinds-entries c =
-    let a = c.args in
-    let r = c.read_halls-summary in
-    let w = into_accepted a.plan.now a.kinds.now a.values.now r.result r.ensures c.if-summary-ne-DONE.false in
-    subst (λ (x : HallSummary). FillsLists a.plan.now a.kinds.now a.values.now a.kinds.now a.values.now x) (sym c.refused_summary.ensures)
-    (into_kinds a.plan.now a.kinds.now a.values.now r.result r.ensures w c.if-kinds-entries.true)
+pub returns-then-kinds-counts : goal.returns-then-kinds-counts
+returns-then-kinds-counts c = other_kinds _ _ _ _ c.in_ok-counts.ensures c.if-kinds-counts.true
 
-pub returns-then-values-entries : goal.returns-then-values-entries
-returns-then-values-entries c =
-    let a = c.args in
-    let r = c.read_halls-summary in
-    let w = into_accepted a.plan.now a.kinds.now a.values.now r.result r.ensures c.if-summary-ne-DONE.false in
-    subst (λ (x : HallSummary). FillsLists a.plan.now a.kinds.now a.values.now a.kinds.now a.values.now x)
-    (sym c.refused_summary-then-values-entries.ensures)
-    (into_values a.plan.now a.kinds.now a.values.now r.result r.ensures w c.if-kinds-entries.false c.if-values-entries.true)
+pub returns-then-values-counts : goal.returns-then-values-counts
+returns-then-values-counts c = other_values _ _ _ _ c.in_ok-counts.ensures c.if-kinds-counts.false c.if-values-counts.true
 
 pub fill_lists-requires : goal.fill_lists-requires
-fill_lists-requires c =
-    let a = c.args in
-    let r = c.read_halls-summary in
-    let w = into_accepted a.plan.now a.kinds.now a.values.now r.result r.ensures c.if-summary-ne-DONE.false in
-    record { inside = omega (arith, c.entries_start.ensures, w.inside); equal = c.if-values-entries.false ∙ sym c.if-kinds-entries.false }
+fill_lists-requires c = room _ _ _ _ c.in_ok-counts.ensures c.if-kinds-counts.false c.if-values-counts.false _ c.entries_start.ensures
 
 pub returns : goal.returns
 returns c =
-    let a = c.args in
-    let r = c.read_halls-summary in
-    let w = into_accepted a.plan.now a.kinds.now a.values.now r.result r.ensures c.if-summary-ne-DONE.false in
-    into_filled a.plan.now a.kinds.now a.values.now r.result r.ensures w _ _ _ c.if-kinds-entries.false c.if-values-entries.false
-    c.entries_start.ensures c.fill_lists.ensures
+    filled _ _ _ _ c.in_ok-counts.ensures c.if-kinds-counts.false c.if-values-counts.false _ c.entries_start.ensures _ _ c.fill_lists.ensures

@@ -84,4 +84,4 @@ sequence_plan s = go (ltb max_plan (length s))
   where
     go : (b : Bool) → SequencePlan s (cond b (refused input_too_long 0) (with_outer (plan_number 0 s)))
     go true = tt
-    go false = sequence_outer s (plan_number 0 s) refl (number_inside s 0 (omega arith))
+    go false = sequence_outer s (plan_number 0 s) refl (number_inside s 0)

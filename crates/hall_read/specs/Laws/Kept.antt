@@ -1,10 +1,9 @@
 -- Laws of what a lookup keeps while entries are passed over, and of passes moved past entries.
-use Rattle.std.specs.Prelude.{◌≡◌, refl, List, [], ◌∷◌, ◌++◌, Bool, true, false, cond, ℕ, zero, suc, ◌+◌, ◌≤◌, length, get_or, eqb}
+use Rattle.std.specs.Prelude.{◌≡◌, refl, List, [], ◌∷◌, ◌++◌, Bool, true, false, cond, ℕ, zero, suc, ◌+◌, ◌≤◌, length, get_or, eqb, Ok}
 use Rattle.std.proofs.Common.{ap, arith, length-append, eq-eqb, ne_eqb}
 use Rattle.hall_entry.specs.Entries.{Entry, entry, chute_kind, destinations, Read, reached, breach, prepend}
 use Rattle.hall_read.specs.Passing.{chute_at, kept, moved_past, passed_over, inside_hall}
 use Rattle.hall_read.specs.declared.Progress.{Progress}
-use Rattle.hall_read.specs.declared.Pass.TheVariants.{Reached}
 
 kept_past : (c i d : ℕ) (l : List ℕ) → c ≤ i → kept c i d l ≡ d
 unfolding kept
@@ -52,7 +51,7 @@ module _ (c : ℕ) (from : Progress) (l : List Entry) (mid : ℕ) where
       rw (length-append l k, e, destinations_append l k, length-append d m, f, kept_append c from.chutes from.found d m)
 
   pub passed_prepend : {A : Type 0} (r : Read A) → passed_over c from (prepend l r) ≡ passed_over c (moved_past c from l mid) r
-  passed_prepend (reached k next rest) = ap Reached (moved_append k next)
+  passed_prepend (reached k next rest) = ap Ok (moved_append k next)
   passed_prepend (breach place) = refl
 
 -- a pass, past no entries, past one chute, and inside a hall

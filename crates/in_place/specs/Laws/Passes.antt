@@ -90,23 +90,14 @@ row_passed r j d s e h = ap (λ (x : List ℕ). put (1 - r) j x s) h
 
 -- ---- the steps in a row are the round
 
--- a list by its five elements, as the code hands on θ's effect
-abbrev pub elements : List ℕ → List ℕ
-elements d = table_from 5 0 (λ k. get_or d k 0)
-
-elements_are : (c d : List ℕ) → d ≡ effect c → elements d ≡ effect c
-unfolding effect
-elements_are c d e = ap elements e
-
 pub round_made : (r : ℕ) (s s1 s2 s3 s4 s5 : Places) (t c d e : List ℕ) (k : ℕ) → c ≡ parities t (lanes r s) → d ≡ effect c
-    → s1 ≡ passed r 4 (elements d) s → s2 ≡ passed r 3 (elements d) s1 → s3 ≡ passed r 1 (elements d) s2 → s4 ≡ passed r 2 (elements d) s3
-    → e ≡ held_first_row (taken r 0 (elements d) s4) k → s5 ≡ put (1 - r) 0 e s4
+    → s1 ≡ passed r 4 d s → s2 ≡ passed r 3 d s1 → s3 ≡ passed r 1 d s2 → s4 ≡ passed r 2 d s3
+    → e ≡ held_first_row (taken r 0 d s4) k → s5 ≡ put (1 - r) 0 e s4
     → (e ≡ row_after r t k s) × (s5 ≡ places_after r t k s)
 unfolding row_after places_after
 round_made r s s1 s2 s3 s4 s5 t c d e k ec ed e1 e2 e3 e4 ee e5 =
-    let x : List ℕ = elements d in
-    let f : x ≡ effect_of r t s = elements_are c d ed ∙ ap effect ec in
+    let f : d ≡ effect_of r t s = ed ∙ ap effect ec in
     let g : s4 ≡ four_rows r (effect_of r t s) s
-    = e4 ∙ ap (passed r 2 x) (e3 ∙ ap (passed r 1 x) (e2 ∙ ap (passed r 3 x) e1)) ∙ ap (λ (u : List ℕ). four_rows r u s) f in
+    = e4 ∙ ap (passed r 2 d) (e3 ∙ ap (passed r 1 d) (e2 ∙ ap (passed r 3 d) e1)) ∙ ap (λ (u : List ℕ). four_rows r u s) f in
     let fe : e ≡ row_after r t k s = ee ∙ ap₂ (λ (u : Places) (v : List ℕ). held_first_row (taken r 0 v u) k) g f in
     (fe, e5 ∙ ap₂ (put (1 - r) 0) fe g)

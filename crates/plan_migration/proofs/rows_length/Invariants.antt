@@ -7,13 +7,9 @@ use Rattle.plan_read.specs.Plan.{rows_by}
 use Rattle.plan_migration.specs.Room.{length_with}
 use Rattle.plan_migration.proofs.rows_length.Given as goal
 
-abbrev pub invariant-loop-i : goal.invariant-loop-i
-invariant-loop-i l = record {
-  in_range : l.i ≤ l.count;
-  small : l.length ≤ 3 + 3 * l.i;
-  answer : length_with l.length (rows_by old_number (l.count - l.i) l.at (drop l.at l.plan))
+abbrev pub invariant-loop : goal.invariant-loop
+invariant-loop l = record {
+  small : l.length ≤ 3 + 3 * l.counter;
+  answer : length_with l.length (rows_by old_number (l.count - l.counter) l.at (drop l.at l.plan))
       ≡ length_with (number_length l.fn.count) (rows_by old_number l.fn.count l.fn.first (drop l.fn.first l.fn.plan));
 }
-
-abbrev pub decreases-loop-i : goal.decreases-loop-i
-decreases-loop-i l = l.count - l.i

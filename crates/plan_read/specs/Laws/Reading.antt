@@ -1,5 +1,5 @@
 -- Laws of a plan read, whatever reads a number: the rows to come by the number that stands next, and the plan by its length and its first number.
-use Rattle.std.specs.Prelude.{◌≡◌, refl, List, [], Bool, true, false, cond, length, drop, leb}
+use Rattle.std.specs.Prelude.{◌≡◌, refl, List, [], Bool, true, false, cond, length, drop, leb, Result, Ok, Err}
 use Prim.Native.Nat.{ℕ, zero, suc, ◌+◌, ◌-◌, ◌≤◌, ◌<◌}
 use native.Mathlib.Omega.{arith}
 use Rattle.std.proofs.Math.ListN.{drop_of_length-le}
@@ -10,7 +10,7 @@ use Rattle.leb128.specs.Number.{Parsed, value, bad}
 use Rattle.leb128.specs.Answers.{number_answer}
 use Rattle.leb128.specs.Laws.Reading.{Rest}
 use Rattle.leb128.specs.declared.Number.{Number}
-use Rattle.leb128.specs.declared.Number.TheVariants.{Value, Bad}
+use Rattle.answers.specs.declared.Malformed.{Malformed}
 use Rattle.plan_read.specs.Limits.{max_plan, max_rows}
 use Rattle.plan_read.specs.Plan.{Plan, rows, refused, malformed, row, cons_row, after_number, rows_by, plan_by}
 
@@ -45,9 +45,9 @@ module _ (number_at : ℕ → List ℕ → Parsed) (s : List ℕ) where
     whole_long h = rw (lt-ltb _ _ h)
 
     -- by its first number
-    abbrev pub rows_after : Number → A
-    rows_after (Value v next) = cond (leb v max_rows) (answer (rows_by number_at v next (drop next s))) (answer (malformed 0))
-    rows_after (Bad place) = answer (malformed place)
+    abbrev pub rows_after : Result Number Malformed → A
+    rows_after (Ok n) = cond (leb n.value max_rows) (answer (rows_by number_at n.value n.next (drop n.next s))) (answer (malformed 0))
+    rows_after (Err e) = answer (malformed e.place)
 
     rows_cond : (t : Bool) (p : Plan) → cond t (answer p) (answer (malformed 0)) ≡ answer (cond t p (malformed 0))
     rows_cond true p = refl

@@ -1,5 +1,5 @@
 -- A turn takes the next byte of what is left; past the end nothing is left.
-use Rattle.std.proofs.Common.{◌≡◌, drop, get_or, ℕ, ◌+◌, ◌<◌, ◌≤◌, length, List, sym, ap, ◌∙◌, arith, add-one, drop-cons}
+use Rattle.std.proofs.Common.{◌≡◌, drop, get_or, ℕ, ◌+◌, ◌<◌, ◌≤◌, length, List, sym, ap, ◌∙◌, add-one, drop-cons}
 use Rattle.std.proofs.Math.ListN.{drop_of_length-le}
 use Rattle.testing.specs.Data.{add_number, add_bytes}
 use Rattle.testing.proofs.add_bytes.Goals as goal
@@ -12,11 +12,10 @@ done : (s t i : ℕ) (l : List ℕ) → length l ≤ i → add_bytes s (drop i l
 unfolding add_bytes
 done s t i l h e = sym (ap (add_bytes s) (drop_of_length-le l h)) ∙ e
 
-pub loop-i-preserved : goal.loop-i-preserved
-loop-i-preserved c =
-    let l = c.args.bytes.now in
-    let e = more c.loop-i.all _ c.loop-i.i l c.loop-i-test.true c.loop-i.invariant.1 in
-    (omega arith, rw (c.add_number-all.ensures, c.wide.ensures) e)
+pub loop-byte-preserved : goal.loop-byte-preserved
+loop-byte-preserved c =
+    let e = more c.loop-byte.all _ c.loop-byte.byte-index c.args.bytes.now c.loop-byte-test.true c.loop-byte.invariant in
+    rw (c.add_number-all.ensures, c.from.ensures) e
 
 pub returns : goal.returns
-returns c = done c.loop-i.all _ c.loop-i.i c.args.bytes.now c.loop-i-test.false c.loop-i.invariant.1
+returns c = done c.loop-byte.all _ c.loop-byte.byte-index c.args.bytes.now c.loop-byte-test.false c.loop-byte.invariant

@@ -1,5 +1,7 @@
 -- Each turn stores the entry that stands first; the stores end where there is none, or where the lists are full.
-use Rattle.std.proofs.Common.{sym, ◌∙◌, drop}
+use Rattle.std.proofs.Common.{sym, drop}
+use Rattle.std.proofs.lemmas.List.{set-get_or}
+use Rattle.hall_entry.specs.Answers.{kind_number}
 use Rattle.hall_entry.specs.Bytes.{entry_head}
 use Rattle.hall_entry.specs.Laws.Heads.{head_known, head_wrong}
 use Rattle.hall_entry.specs.Laws.Bytes.{byte_heads}
@@ -9,18 +11,19 @@ use Rattle.hall_lists.proofs.fill.fill_lists.Goals as goal
 pub returns-in_default : goal.returns-in_default
 returns-in_default c =
     let l = c.loop-i in
-    let told = c.in_default in
-    filling_done l.invariant
-    (sequence_stop c.args.plan.now _ l.i l.at told.field-0 c.loop-i-test.true (head_wrong _ told.field-0 (sym c.entry_at-head.ensures.answer ∙ told.is)))
+    let m = c.in_default.field-0 in
+    rw (set-get_or l.kinds l.i 0)
+    (filling_done l.invariant
+    (sequence_stop c.args.plan.now _ l.i l.at m.place c.loop-i-test.true (head_wrong _ m (sym c.in_default.ensures.answer))))
 
 pub loop-i-preserved : goal.loop-i-preserved
 loop-i-preserved c =
     let l = c.loop-i in
     let s = c.args.plan.now in
-    let g = c.in-Found in
-    let h = head_known s 1 0 l.at g.kind g.value g.next (entry_head l.at (drop l.at s)) (byte_heads s 1 0 l.at l.invariant.inside)
-    (sym c.entry_at-head.ensures.answer ∙ g.is) in
-    filling_more l.invariant g.kind g.value g.next c.loop-i-test.true h.is h.inside
+    let e = c.in-Ok.entry in
+    let h = head_known s 1 0 l.at e (entry_head l.at (drop l.at s)) (byte_heads s 1 0 l.at) (sym c.in-Ok.ensures.answer) in
+    rw c.from.ensures
+    (filling_more l.invariant (kind_number e.kind) e.value e.next c.loop-i-test.true h.is)
 
 pub returns : goal.returns
 returns c = let l = c.loop-i in filling_done l.invariant (sequence_end c.args.plan.now _ l.i l.at c.loop-i-test.false)

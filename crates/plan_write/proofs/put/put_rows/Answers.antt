@@ -1,27 +1,54 @@
 -- A turn writes the row that comes next: the row is allowed and there is room for it, and what is left of both serves the rows after it.
-use Rattle.std.proofs.Common.{sym, ◌∙◌, ◌+◌, ◌≤◌, ◌<◌, length, get_or, arith}
+use Rattle.std.proofs.Common.{rules, ◌≡◌, sym, ◌∙◌, ◌+◌, ◌≤◌, ◌<◌, ℕ, List, length, drop, get_or, true, arith, Option, Some}
+use Rattle.std.proofs.lemmas.List.Edits.{sets}
 use Rattle.leb128_write.specs.Written.{written_number}
-use Rattle.leb128_write.proofs.Laws.{past_written, is_written}
+use Rattle.leb128_write.specs.Answers.{written_past, number_written, unless_zero}
+use Rattle.leb128_write.proofs.Laws.{past_some, is_written}
+use Rattle.plan_length.specs.Length.{written_rows, rows_allowed}
 use Rattle.plan_write.proofs.Rows.{row_room, rows_sets, rows_end, first_allowed, others_allowed}
 use Rattle.plan_write.proofs.put.put_rows.Goals as goal
 
-pub loop-i-preserved : goal.loop-i-preserved
-loop-i-preserved c =
-    let l = c.loop-i in
-    let w = c.write_number-at in
-    let rows = c.args.rows.now in
-    let h : l.i < length rows = c.loop-i-test.true in
-    let small = first_allowed l.i rows h l.invariant.small in
-    let left = row_room l.i rows h l.at (length l.out) l.invariant.room in
-    let room : l.at + length (written_number (get_or rows l.i 0)) ≤ length l.out = omega (arith, left) in
-    let past = w.ensures.0 ∙ past_written l.at (get_or rows l.i 0) small l.out room in
-    let stored = w.ensures.1 ∙ is_written l.at (get_or rows l.i 0) small l.out room in
+-- a row that is written at a place, with the rows to come
+record RowWritten (rows : List ℕ) (i at : ℕ) (out : List ℕ) (answer : Option ℕ) (stored : List ℕ) : Type 0 where
+  past : answer ≡ Some (at + length (written_number (get_or rows i 0)))
+  stores : stored ≡ sets out at (written_number (get_or rows i 0))
+  others : rows_allowed (drop (i + 1) rows) ≡ true
+  room : at + length (written_number (get_or rows i 0)) + length (written_rows (drop (i + 1) rows)) ≤ length out
+
+row_written : (rows : List ℕ) (i at : ℕ) (out : List ℕ) → i < length rows → rows_allowed (drop i rows) ≡ true
+    → at + length (written_rows (drop i rows)) ≤ length out → (answer : Option ℕ) (stored : List ℕ)
+    → (answer ≡ unless_zero (written_past at (get_or rows i 0) (length out))) × (stored ≡ number_written at (get_or rows i 0) out)
+    → RowWritten rows i at out answer stored
+row_written rows i at out h ok room answer stored e =
+    let small = first_allowed i rows h ok in
+    let left = row_room i rows h at (length out) room in
+    let fits : at + length (written_number (get_or rows i 0)) ≤ length out = omega (arith, left) in
     record {
-      in_range = omega arith;
-      small = others_allowed l.i rows h l.invariant.small;
-      room = omega (arith, left, past, w.auto.out);
-      stored = rw (past, stored) (sym (rows_sets l.i rows h l.out l.at) ∙ l.invariant.stored);
+      past = e.0 ∙ past_some at (get_or rows i 0) small out fits;
+      stores = e.1 ∙ is_written at (get_or rows i 0) small out fits;
+      others = others_allowed i rows h ok;
+      room = left;
+    }
+
+pub unwrap-at-requires : goal.unwrap-at-requires
+unwrap-at-requires c =
+    let l = c.loop-row in
+    let w = row_written _ l.row-index l.at l.out c.loop-row-test.true l.invariant.small l.invariant.room _ _ c.write_number.ensures in
+    search (rules, w.past)
+
+pub loop-row-preserved : goal.loop-row-preserved
+loop-row-preserved c =
+    let l = c.loop-row in
+    let rows = c.args.rows.now in
+    let w = row_written rows l.row-index l.at l.out c.loop-row-test.true l.invariant.small l.invariant.room _ _ c.write_number.ensures in
+    let past : c.unwrap-at.result ≡ l.at + length (written_number (get_or rows l.row-index 0)) = search (rules, w.past) in
+    record {
+      small = w.others;
+      room = omega (arith, w.room, past, c.write_number.auto.out);
+      stored = rw (past, w.stores) (sym (rows_sets l.row-index rows c.loop-row-test.true l.out l.at) ∙ l.invariant.stored);
     }
 
 pub returns : goal.returns
-returns c = sym (rows_end c.loop-i.i c.args.rows.now c.loop-i.out c.loop-i.at c.loop-i-test.false) ∙ c.loop-i.invariant.stored
+returns c =
+    let l = c.loop-row in
+    sym (rows_end l.row-index c.args.rows.now l.out l.at (omega arith)) ∙ l.invariant.stored

@@ -1,0 +1,7 @@
+-- The bytes of the first lane and of the lanes passed are put in.
+use Rattle.std.proofs.Common.{◌≡◌, ◌+◌, ◌*◌, ◌-◌, ◌%◌, take}
+use Rattle.fips202.specs.Bytes.{xor_bytes}
+use Rattle.lanes_in.proofs.xor_some.Given as goal
+
+abbrev pub invariant-loop-i : goal.invariant-loop-i
+invariant-loop-i l = l.lanes ≡ xor_bytes l.fn.lanes l.p (take (8 - l.p % 8 + 8 * l.i) l.piece)
