@@ -130,7 +130,7 @@ def main():
             if re.search(r"\b(number|kind|phase|seeded|kmac|source|malformed): (u8|bool)", match.group(2)):
                 line = bare(text).count("\n", 0, match.start()) + 1
                 point("1b structs with a number of the table or a flag beside values").append(f"{file}:{line} {match.group(1)}")
-    each("1c constants that number refusals or kinds", r"^pub const [A-Z_]+: u8 = \d+;")
+    each("1c constants that number refusals or kinds", r"^\s*pub const [A-Z_]+: u8 = \d+;")
     name = "1d functions that answer or take a number of the table"
     point(name)
     for f in all_functions:
@@ -170,7 +170,7 @@ def main():
                 or re.fullmatch(r"match \w+ \{ (\w+::\w+(\(\w+\))? => (\d+|\w+),? ?)+\}", body) or re.match(r"(imported|exported|source_number|phase_|number_of|is_set)", f.name) \
                 or re.fullmatch(r"if b \{ 1 \} else \{ 0 \}", body):
             point(name).append(f.place())
-    each("4 numbers of several bytes put together or taken apart by hand", r"^fn (load|store)\d\b[^\n]*|^fn half\b[^\n]*|^pub fn word\b[^\n]*")
+    each("4 numbers of several bytes put together or taken apart by hand", r"^\s*fn (load|store)\d\b[^\n]*|^\s*fn half\b[^\n]*|^\s*pub fn word\b[^\n]*")
 
     # 5
     facts = collections.defaultdict(list)
