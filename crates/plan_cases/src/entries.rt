@@ -1,6 +1,8 @@
 // The plan entries, each asked for one case.
 use answers::PlanRefusal;
 use cases::Case;
+use plan::{Lookup, PlanSummary};
+use plan_length::{PlanLength, PlanWritten};
 use std::io;
 
 mod pairs; // pairs.rt: the entries on two plans
@@ -31,36 +33,21 @@ fn field(rt: &impl Print, n: u64) -> io::Result<()> {
     print!(rt; "{n} ")
 }
 
-// A refusal, a value and a place, as the reference prints them of every answer, whatever its type.
+// A refusal, a value and a place of an answer as C has it, as the reference prints them of every answer, whatever its type.
 fn fields(rt: &impl Print, number: u8, value: u64, place: usize) -> io::Result<()> {
     print!(rt; "{number}:{value}:{place} ")
 }
 
-// The three of an answer: the value is 0 on a refusal.
-fn parts(given: Result<u64, PlanRefusal>) -> (u8, u64, usize) {
-    match given {
-        Ok(value) => (answers::DONE, value, answers::NO_PLACE),
-        Err(refusal) => (refusal.number(), 0, refusal.place()),
-    }
-}
-
-fn answer(rt: &impl Print, given: Result<u64, PlanRefusal>) -> io::Result<()> {
-    let (number, value, place) = parts(given);
-    fields(rt, number, value, place)
-}
-
-fn rows(plan: &[u8]) -> Result<u64, PlanRefusal> {
-    plan::read_plan(plan).map(u64::from)
-}
-
-fn destination(plan: &[u8], chute: u64) -> Result<u64, PlanRefusal> {
-    plan::destination(plan, chute).map(u64::from)
+fn look_up(rt: &impl Print, plan: &[u8], chute: u64) -> io::Result<()> {
+    let found = Lookup::from(plan::destination(plan, chute));
+    fields(rt, found.number, u64::from(found.destination), found.place)
 }
 
 // The refusal, the number of rows and the place, then the answers for chute 0, the first, the one that the case names and the next, the row limit, and the
 // numbers around 2^32.
 fn line(rt: &impl Print, plan: &[u8], last: u64) -> io::Result<()> {
-    answer(rt, rows(plan))?;
+    let summary = PlanSummary::from(plan::read_plan(plan));
+    fields(rt, summary.number, u64::from(summary.rows), summary.place)?;
     for chute in [
         0,
         1,
@@ -70,22 +57,24 @@ fn line(rt: &impl Print, plan: &[u8], last: u64) -> io::Result<()> {
         4294967295,
         4294967297,
     ] {
-        answer(rt, destination(plan, chute))?;
+        look_up(rt, plan, chute)?;
     }
     Ok(())
 }
 
-fn added(sum: u64, given: Result<u64, PlanRefusal>) -> u64 {
-    let (number, value, place) = parts(given);
-    let with_value = testing::add_number(testing::add_number(sum, u64::from(number)), value);
+fn added(sum: u64, number: u8, value: u32, place: usize) -> u64 {
+    let with_number = testing::add_number(sum, u64::from(number));
+    let with_value = testing::add_number(with_number, u64::from(value));
     testing::add_number(with_value, place as u64)
 }
 
 // A plan's refusal, number of rows and place, and the answers for its first chutes from 0 on, taken into the checksum.
 fn summed(plan: &[u8], sum: u64, chutes: u64) -> u64 {
-    let mut all = added(sum, rows(plan));
+    let summary = PlanSummary::from(plan::read_plan(plan));
+    let mut all = added(sum, summary.number, summary.rows, summary.place);
     for chute in 0..chutes {
-        all = added(all, destination(plan, chute));
+        let found = Lookup::from(plan::destination(plan, chute));
+        all = added(all, found.number, found.destination, found.place);
     }
     all
 }
@@ -109,9 +98,9 @@ fn fill(rows: &mut [u32], bytes: &[u8]) {
 }
 
 fn write_each(rt: &impl Print, rows: &[u32]) -> io::Result<()> {
-    let needed = plan_length::plan_length(rows).map(|length| length as u64);
-    answer(rt, needed)?;
-    let length = needed.unwrap_or(0) as usize;
+    let needed = PlanLength::from(plan_length::plan_length(rows));
+    let length = needed.length;
+    fields(rt, needed.number, length as u64, needed.place)?;
     for lent in [length, length.wrapping_add(1), length.saturating_sub(1), 0] {
         into_lent(rt, lent, |out| plan_write::write_plan(rows, out))?;
     }
@@ -141,15 +130,15 @@ fn into_first<Write: Fn(&mut [u8]) -> Result<(), PlanRefusal>>(
     if buffer.len() < lent {
         return Ok(());
     }
-    let (number, _, place) = parts(write(&mut buffer[..lent]).map(|_| 0));
-    fields(rt, number, testing::add_bytes(0, buffer), place)
+    let found = PlanWritten::from(write(&mut buffer[..lent]));
+    fields(rt, found.number, testing::add_bytes(0, buffer), found.place)
 }
 
 // The length of the migrated plan, and then the refusal and all of the buffer for that length, one byte more, one less, and the plan's own length.
 fn migrated(rt: &impl Print, plan: &[u8]) -> io::Result<()> {
-    let needed = plan_migration::migrated_length(plan).map(|length| length as u64);
-    answer(rt, needed)?;
-    let length = needed.unwrap_or(0) as usize;
+    let needed = PlanLength::from(plan_migration::migrated_length(plan));
+    let length = needed.length;
+    fields(rt, needed.number, length as u64, needed.place)?;
     for lent in [
         length,
         length.wrapping_add(1),
