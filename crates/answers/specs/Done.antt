@@ -21,6 +21,10 @@ outcome_of k runs = record { number = k; runs = if_done k runs 0 }
 abbrev pub over : (n most k : ℕ) → ℕ
 over n most k = cond (ltb most n) k done
 
+-- the same as an answer, whatever a refusal is: e where n bytes are more than the most that are allowed, and else what the call comes to
+abbrev pub unless_over : {A E : Type 0} → (n most : ℕ) → A → E → Result A E
+unless_over n most a e = cond (ltb most n) (Err e) (Ok a)
+
 -- the answer of a call by its number k: what it comes to where nothing is refused
 abbrev pub answered : {A : Type 0} → ℕ → A → Result A Refusal
 answered zero a = Ok a

@@ -1,8 +1,8 @@
 -- Laws on refusal tables: what a call that is not refused has passed.
 use Rattle.std.specs.Prelude.{◌≡◌, refl, Bool, true, false, cond, ℕ, zero, suc, ◌<◌, ◌≤◌, ltb, Ok, Err}
 use Rattle.std.proofs.Common.{arith, ap, sym, ◌∙◌, ltb-false}
-use Rattle.answers.specs.Numbers.{number_of, refusal_of}
-use Rattle.answers.specs.Done.{first_number, over, answered, outcome_of, outcome_from}
+use Rattle.answers.specs.Numbers.{done, number_of, refusal_of}
+use Rattle.answers.specs.Done.{first_number, over, unless_over, answered, outcome_of, outcome_from}
 use Rattle.answers.specs.declared.Outcome.{Outcome}
 use Rattle.answers.specs.declared.Refusal.{Refusal}
 use Rattle.answers.specs.declared.Refusal.TheVariants.{
@@ -57,6 +57,26 @@ refusal_of-number_of BadTagLength = refl
 refusal_of-number_of TagMismatch = refl
 refusal_of-number_of MalformedPlan = refl
 refusal_of-number_of NoSuchChute = refl
+
+-- too many bytes are refused by the refusal's number
+pub over_answered : {A : Type 0} (n most : ℕ) (a : A) (e : Refusal) → unless_over n most a e ≡ answered (over n most (number_of e)) a
+over_answered n most a e = go (ltb most n)
+  where
+    numbered : (e : Refusal) → Err e ≡ answered (number_of e) a
+    numbered WrongState = refl
+    numbered BadKeyLength = refl
+    numbered StringTooLong = refl
+    numbered ReservedName = refl
+    numbered InputTooLong = refl
+    numbered BadOutputLength = refl
+    numbered BadTagLength = refl
+    numbered TagMismatch = refl
+    numbered MalformedPlan = refl
+    numbered NoSuchChute = refl
+
+    go : (t : Bool) → cond t (Err e) (Ok a) ≡ answered (cond t (number_of e) done) a
+    go true = numbered e
+    go false = refl
 
 -- an answer that nothing refuses has the number 0, and what it comes to
 pub answered_ok : {A : Type 0} (k : ℕ) (a b : A) → answered k a ≡ Ok b → (k ≡ 0) × (a ≡ b)

@@ -5,7 +5,7 @@
 ghost use Rattle.std.specs.Prelude.{◌≡◌, ◌+◌};
 ghost use Rattle.answers.specs.Numbers.{number_of};
 ghost use Rattle.answers.specs.Places.{plan_refusal_number, plan_refusal_place};
-ghost use Rattle.answers.specs.Done.{answered, over, outcome_from};
+ghost use Rattle.answers.specs.Done.{unless_over, outcome_from};
 ghost use Rattle.answers.specs.declared.PlanRefusal.{PlanRefusal};
 
 // The number of a call that is not refused.
@@ -125,8 +125,8 @@ impl From<Result<usize, Refusal>> for Outcome {
 }
 
 // Refuses a total that more bytes would lead beyond the most that are allowed.
-pub fn over_total(total: usize, more: usize, most: usize, refusal: Refusal) -> Result<(), Refusal>
-    ensures { result ≡ answered (over (total + more) most (number_of refusal)) tt }
+pub fn over_total<E: Copy>(total: usize, more: usize, most: usize, refusal: E) -> Result<(), E>
+    ensures { result ≡ unless_over (total + more) most tt refusal }
 {
     if most < total {
         return Err(refusal);
@@ -135,8 +135,8 @@ pub fn over_total(total: usize, more: usize, most: usize, refusal: Refusal) -> R
 }
 
 // Refuses more bytes than the most that are allowed.
-pub fn over(bytes: usize, most: usize, refusal: Refusal) -> Result<(), Refusal>
-    ensures { result ≡ answered (over bytes most (number_of refusal)) tt }
+pub fn over<E: Copy>(bytes: usize, most: usize, refusal: E) -> Result<(), E>
+    ensures { result ≡ unless_over bytes most tt refusal }
 {
     if most < bytes {
         return Err(refusal);

@@ -4,6 +4,7 @@ use Rattle.answers.specs.Done.{answer_number}
 use Rattle.session_state.specs.declared.Phase.{Phase}
 use Rattle.session_state.specs.declared.Phase.TheVariants.{Taking, Giving}
 use Rattle.session_state.specs.declared.Session.{Session}
+use Rattle.answers.specs.declared.Refusal.{Refusal}
 use Rattle.session_state.specs.declared.SessionAnswer.{SessionAnswer}
 use Rattle.c_flag.specs.Flag.{flag, is_set}
 use Rattle.c_session_state.specs.declared.CSession.{CSession}
@@ -48,5 +49,5 @@ imported_session s =
 abbrev pub c_session_answer : ℕ → CSession → CSessionAnswer
 c_session_answer k s = record { session = s; number = k }
 
-abbrev pub exported_answer : SessionAnswer → CSessionAnswer
+abbrev pub exported_answer : SessionAnswer Refusal → CSessionAnswer
 exported_answer a = c_session_answer (answer_number a.answer) (exported_session a.session)

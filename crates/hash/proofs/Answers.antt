@@ -37,7 +37,7 @@ use Rattle.sponge.specs.Sponge.{sponge}
 use Rattle.start.specs.declared.Started.{Started}
 use Rattle.start.specs.Started.{Starts, StartedBy}
 use Rattle.start.proofs.Calls.{start_accepted, start_refused, start_blocks_lem, call_output}
-use Rattle.one_shot.specs.Run.{runs_from, run_output}
+use Rattle.one_shot.specs.Run.{runs_from, run_output, run_outcome, run_written}
 use Rattle.hash.specs.Outcome.{outcome, written}
 
 -- ---- numbers
@@ -163,7 +163,7 @@ module _ {f : Function} (c : Call f) (before : List ℕ) where
               call_output c v (message_of c ++ e) (length before) accepted.1 accepted.0 (ap (λ (l : List ℕ). message_of c ++ l) is)
               ∙ ap (sponge (fed c)) n
 
-          -- from what `run` ensures
+          -- what is done, run to its end
           pub runs_call : (r : ℕ) (out : List ℕ) → length before ≡ output_bytes c
               → (r ≡ runs_from v.blocks (length (message_of c)) (length e) (length before)) × (out ≡ run_output v (message_of c) e (length before))
               → Answered (Ok r) out
@@ -173,3 +173,17 @@ module _ {f : Function} (c : Call f) (before : List ℕ) where
                 ap (outcome_of 0) count ∙ sym (ap (λ (k : ℕ). outcome_of k (runs c)) ok),
                 ran.1 ∙ output_is n ∙ sym (ap (λ (k : ℕ). if_done k (sponge (fed c) (output_bytes c)) before) ok),
               )
+
+      -- from what `run` ensures, by what the lengths were checked to be. Its ending is that of the function where the output has an allowed length
+      pub run_answers : (checked : Result Unit Refusal) (e : List ℕ) (r : Result ℕ Refusal) (out : List ℕ)
+          → checked ≡ answered lengths_refusal (tt {0})
+          → (output_bytes c ≤ max_output → (e ≡ ending f (output_bytes c)) × (length e ≤ 9))
+          → length before ≡ output_bytes c
+          → (r ≡ run_outcome checked v (message_of c) e (length before)) × (out ≡ run_written checked v (message_of c) e before)
+          → Answered r out
+      unfolding run_outcome run_written
+      run_answers (Ok u) e r out checks ended n ran =
+          let passes : answered lengths_refusal (tt {0}) ≡ Ok (tt {0}) = sym checks in
+          let ends = ended (output_limit passes) in
+          rw ran.0 (runs_call passes e ends.0 ends.1 _ out n (refl, ran.1))
+      run_answers (Err x) e r out checks ended n ran = rw ran.1 (lengths_refuse r x (sym checks) ran.0)

@@ -21,6 +21,6 @@ pub fn cshake256(
         ≡ written (cshake256 message.now (length out.old) name.now customisation.now) out.old) }
 {
     let start = start_named(name, customisation)?;
-    check_extendable(message.len(), out.len())?;
-    Ok(run(start, message, b"", out))
+    let checked = check_extendable(message.len(), out.len());
+    run(checked, start, message, b"", out)
 }

@@ -22,7 +22,8 @@ pub fn kmac256(
         ≡ written (kmac256 key.now message.now (length out.old) customisation.now) out.old) }
 {
     let start = start_keyed(key, customisation)?;
-    check_kmac256(message.len(), out.len())?;
-    let bits = right_encode(8 * (out.len() as u64));
-    Ok(run(start, message, bits.as_bytes(), out))
+    let checked = check_kmac256(message.len(), out.len());
+    // Of an output that is not too long, in bits: nothing wraps there.
+    let bits = right_encode((out.len() as u64).wrapping_mul(8));
+    run(checked, start, message, bits.as_bytes(), out)
 }

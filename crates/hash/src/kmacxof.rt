@@ -22,7 +22,7 @@ pub fn kmacxof256(
         ≡ written (kmacxof256 key.now message.now (length out.old) customisation.now) out.old) }
 {
     let start = start_keyed(key, customisation)?;
-    check_extendable(message.len(), out.len())?;
+    let checked = check_extendable(message.len(), out.len());
     // right_encode(0)
-    Ok(run(start, message, b"\x00\x01", out))
+    run(checked, start, message, b"\x00\x01", out)
 }

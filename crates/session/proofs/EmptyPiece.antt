@@ -14,6 +14,7 @@ use Rattle.sponge.proofs.Whole.{absorbed_position}
 use Rattle.session_state.specs.declared.Phase.{Phase}
 use Rattle.session_state.specs.declared.Phase.TheVariants.{Taking, Giving}
 use Rattle.session_state.specs.declared.Session.{Session}
+use Rattle.answers.specs.declared.Refusal.{Refusal}
 use Rattle.session_state.specs.declared.SessionAnswer.{SessionAnswer}
 use Rattle.session_state.specs.Session.{session_answer, after_taking, taking_in, taking}
 use Rattle.session.specs.History.{SessionCall, session_after}
@@ -41,11 +42,11 @@ gave_regular s out q e = absurd (let z : ◌≡◌ {A = ℕ} 0 1 = cc in omega a
 
 stays_one : (c : SessionCall) (cs : List SessionCall) (s : Session) → CallCase s c → ((t : Session) → StaysRegular cs t) → StaysRegular (c ∷ cs) s
 unfolding session_after
-stays_one c cs s (refused k e) ih h = subst (λ (t : SessionAnswer). Regular (session_after t.session cs)) (sym e) (ih s h)
+stays_one c cs s (refused k e) ih h = subst (λ (t : SessionAnswer Refusal). Regular (session_after t.session cs)) (sym e) (ih s h)
 stays_one c cs s (took {m} p ph bounded e) ih h =
-    subst (λ (t : SessionAnswer). Regular (session_after t.session cs)) (sym e) (ih (took_to s p m) (took_regular s p m bounded))
+    subst (λ (t : SessionAnswer Refusal). Regular (session_after t.session cs)) (sym e) (ih (took_to s p m) (took_regular s p m bounded))
 stays_one c cs s (gave {out} bounded e f) ih h =
-    subst (λ (t : SessionAnswer). Regular (session_after t.session cs)) (sym e) (ih (gave_to s out) (gave_regular s out))
+    subst (λ (t : SessionAnswer Refusal). Regular (session_after t.session cs)) (sym e) (ih (gave_to s out) (gave_regular s out))
 
 pub stays_regular : (cs : List SessionCall) (s : Session) → StaysRegular cs s
 stays_regular = by_case StaysRegular stays_none stays_one

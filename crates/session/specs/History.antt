@@ -4,6 +4,7 @@ use Rattle.answers.specs.Numbers.{done, wrong_state, input_too_long, bad_output_
 use Rattle.answers.specs.Done.{answer_number}
 use Rattle.calls.specs.Limits.{max_message, max_output}
 use Rattle.session_state.specs.declared.Session.{Session}
+use Rattle.answers.specs.declared.Refusal.{Refusal}
 use Rattle.session_state.specs.declared.SessionAnswer.{SessionAnswer}
 use Rattle.session_state.specs.Session.{taking, giving, filled}
 
@@ -13,7 +14,7 @@ pub data SessionCall : Type 0 where
   gives : (out : List ℕ) → SessionCall
 
 -- what a call hands back
-unfoldable pub called : Session → SessionCall → SessionAnswer
+unfoldable pub called : Session → SessionCall → SessionAnswer Refusal
 called s (takes m) = taking s m
 called s (gives out) = giving s (length out)
 

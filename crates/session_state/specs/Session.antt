@@ -18,7 +18,7 @@ use Rattle.session_state.specs.declared.Session.{Session}
 use Rattle.session_state.specs.declared.SessionAnswer.{SessionAnswer}
 
 -- by the number of a call
-abbrev pub session_answer : ℕ → Session → SessionAnswer
+abbrev pub session_answer : ℕ → Session → SessionAnswer Refusal
 session_answer k s = record { answer = answered k (tt {0}); session = s }
 
 -- Start
@@ -49,8 +49,9 @@ unstarted =
       kmac = false;
     }
 
-unfoldable pub started_session : Result Started Refusal → Bool → SessionAnswer
-started_session (Ok t) k = session_answer done (initial t k)
+-- of a start, whatever it is refused with
+unfoldable pub started_session : {E : Type 0} → Result Started E → Bool → SessionAnswer E
+started_session (Ok t) k = record { answer = Ok (tt {0}); session = initial t k }
 started_session (Err e) k = record { answer = Err e; session = unstarted }
 
 -- whether right_encode(0) follows the message
@@ -59,7 +60,7 @@ is_kmac (named N S) = false
 is_kmac (keyed K S) = true
 
 -- cSHAKE256 by its name and customisation, KMACXOF256 by its key and customisation
-unfoldable pub begun : Start → SessionAnswer
+unfoldable pub begun : Start → SessionAnswer Refusal
 begun s = started_session (started s) (is_kmac s)
 
 -- Take
@@ -77,14 +78,14 @@ after_taking s n u =
       kmac = s.kmac;
     }
 
-unfoldable pub taking_in : Phase → Session → List ℕ → SessionAnswer
+unfoldable pub taking_in : Phase → Session → List ℕ → SessionAnswer Refusal
 taking_in (Taking p) s m =
     cond (ltb max_message (s.taken + length m)) (session_answer input_too_long s)
     (session_answer done (after_taking s (length m) (absorbed (running s.lanes (p % rate)) m)))
 taking_in (Giving p) s m = session_answer wrong_state s
 
 -- a piece m
-abbrev pub taking : Session → List ℕ → SessionAnswer
+abbrev pub taking : Session → List ℕ → SessionAnswer Refusal
 taking s m = taking_in s.phase s m
 
 -- Give
@@ -113,7 +114,7 @@ after_giving s n u =
     }
 
 -- an ask for n bytes
-unfoldable pub giving : Session → ℕ → SessionAnswer
+unfoldable pub giving : Session → ℕ → SessionAnswer Refusal
 giving s n =
     cond (ltb s.limit (s.given + n)) (session_answer bad_output_length s)
     (session_answer done (after_giving s n (after n (giving_sponge s.phase s))))

@@ -34,8 +34,8 @@ pub struct Session {
 
 // What a call hands back: whether it was done or what it is refused for, and the session after it.
 #[derive(Clone, Copy)]
-pub struct SessionAnswer {
-    pub answer: Result<(), Refusal>,
+pub struct SessionAnswer<E = Refusal> {
+    pub answer: Result<(), E>,
     pub session: Session,
 }
 
@@ -50,8 +50,8 @@ const UNSTARTED: Session = Session {
     kmac: false,
 };
 
-// The session of a start.
-pub fn start_session(start: Result<Started, Refusal>, kmac: bool) -> SessionAnswer
+// The session of a start, whatever a start is refused with.
+pub fn start_session<E>(start: Result<Started, E>, kmac: bool) -> SessionAnswer<E>
     ensures { result ≡ started_session start kmac }
 {
     match start {

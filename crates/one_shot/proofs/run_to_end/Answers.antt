@@ -2,7 +2,7 @@
 use Rattle.std.proofs.Common.{length, ◌∙◌}
 use Rattle.sponge.specs.Running.{state_of}
 use Rattle.one_shot.proofs.Chain.{chained}
-use Rattle.one_shot.proofs.run.Goals as goal
+use Rattle.one_shot.proofs.run_to_end.Goals as goal
 
 pub returns : goal.returns
 returns c =
