@@ -19,7 +19,7 @@ pub fn halls_allowed(outer: u64, kinds: &[u8], values: &[u32]) -> bool
     if u64::from(leb128::MAX_NUMBER) < outer {
         return false;
     }
-    match hall_read::pass(Lists { kinds, values }, 0, outer as u32, 0) {
+    match hall_read::pass(&Lists { kinds, values }, 0, outer as u32, 0) {
         Ok(end) => end.at == kinds.len(),
         Err(_) => false,
     }

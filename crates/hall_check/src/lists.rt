@@ -16,10 +16,11 @@ pub struct Lists<'a> {
     ghost equal: { length kinds.now ≡ length values.now },
 }
 
-impl Entries for Lists<'_> {
+// A reference to them: a pass hands its entries on at each entry, and of two lists it would hand on a copy.
+impl Entries for &Lists<'_> {
     ghost Item = { Entry };
 
-    ghost items = { λ lists. pairs lists.kinds.now lists.values.now };
+    ghost items = { λ lists. pairs lists.now.kinds.now lists.now.values.now };
 
     ghost head = { list_head };
 
@@ -42,5 +43,5 @@ impl Entries for Lists<'_> {
         })
     }
 
-    ghost heads = { λ lists levels chutes at. list_heads (pairs lists.kinds.now lists.values.now) levels chutes at };
+    ghost heads = { λ lists levels chutes at. list_heads (pairs lists.now.kinds.now lists.now.values.now) levels chutes at };
 }

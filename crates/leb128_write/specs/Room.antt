@@ -1,8 +1,9 @@
--- What the stores of a number ask of their caller, who lends n bytes. No public contract cites it.
-use Rattle.std.specs.Prelude.{ℕ, ◌≡◌, ◌≤◌, length}
-use Rattle.leb128.specs.Number.{max_number}
-use Rattle.leb128_write.specs.Written.{written_number}
+-- Groups stored at a place, if there is room for them: the place past them, and what the lent buffer holds afterwards. No public contract cites these.
+use Rattle.std.specs.Prelude.{ℕ, ◌+◌, List, cond, Option, Some, None, leb, length}
+use Rattle.std.proofs.lemmas.List.Edits.{sets}
 
-pub record NumberRoom (v n : ℕ) : Type 0 where
-  pub small : v ≤ max_number
-  pub room : n ≡ length (written_number v)
+abbrev pub past_groups : ℕ → List ℕ → ℕ → Option ℕ
+past_groups at groups n = cond (leb (at + length groups) n) (Some (at + length groups)) None
+
+abbrev pub groups_stored : ℕ → List ℕ → List ℕ → List ℕ
+groups_stored at groups out = cond (leb (at + length groups) (length out)) (sets out at groups) out

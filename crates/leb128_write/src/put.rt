@@ -1,19 +1,16 @@
-// The stores of a number, lowest group first. The caller has seen that the number is not above the largest, and lends just the bytes that it takes.
+// The stores of a number's groups, lowest first, where there is room for them.
 ghost use Rattle.std.specs.Prelude.{◌≡◌, length};
-ghost use Rattle.leb128_write.specs.Written.{written_number};
-ghost use Rattle.leb128_write.specs.Room.{NumberRoom};
+ghost use Rattle.leb128_write.specs.Room.{past_groups, groups_stored};
 
-pub fn put_groups(room: &mut [u8], value: u32)
-    requires { NumberRoom value (length room.old) }
-    ensures { room.new ≡ written_number value }
+// Stores groups at a place, and answers the place past them; none, and nothing is stored, where there is no room for them.
+pub fn put_groups(out: &mut [u8], at: usize, groups: &[u8]) -> Option<usize>
+    ensures { (result ≡ past_groups at groups.now (length out.old)) × (out.new ≡ groups_stored at groups.now out.old) }
 {
-    let mut rest = value;
-    for byte in room {
-        *byte = if rest < 128 {
-            rest as u8
-        } else {
-            (128 + rest % 128) as u8
-        };
-        rest /= 128;
+    let room = out.len().checked_sub(at)?;
+    if room < groups.len() {
+        return None;
     }
+    let past = at + groups.len();
+    out[at..past].copy_from_slice(groups);
+    Some(past)
 }

@@ -1,30 +1,25 @@
--- The length says whether the number is above the largest; where it is not, the tests say whether there is room.
--- Every refusal stands before the first store.
-use Rattle.std.proofs.Common.{arith, length-take, length-drop}
-use Rattle.leb128_write.proofs.Laws.{groups_count, length_known, length_none}
-use Rattle.leb128_write.proofs.Writing.{none_large, none_room, all_stored}
+-- The range of the number says which groups it has, and their stores whether there is room.
+use Rattle.std.proofs.Common.{arith}
+use Rattle.leb128_write.proofs.Writing.{one_group, two_groups, three_groups, none_large, groups_written}
 use Rattle.leb128_write.proofs.write_number.Goals as goal
 
-pub returns-in_err-length : goal.returns-in_err-length
-returns-in_err-length c =
-    rw c.from_residual.ensures (none_large c.args.at c.args.value c.args.out.now (length_none c.args.value c.in_err-length.ensures))
+pub returns-in-0-to-127 : goal.returns-in-0-to-127
+returns-in-0-to-127 c =
+    let v = c.args.value in
+    groups_written c.args.at v c.args.out.now (omega arith) _ (one_group v (omega arith)) _ _ c.put_groups.ensures
 
-pub returns-in_err-room : goal.returns-in_err-room
-returns-in_err-room c =
-    let k = length_known c.args.value c.in_ok-length.length c.in_ok-length.ensures in
-    rw c.from_residual-in_err-room.ensures (none_room c.args.at c.args.value c.args.out.now k.0 (omega (arith, k.1, groups_count 2 c.args.value)))
+pub returns-in-128-to-16383 : goal.returns-in-128-to-16383
+returns-in-128-to-16383 c =
+    let v = c.args.value in
+    let p = c.put_groups-in-128-to-16383 in
+    groups_written c.args.at v c.args.out.now (omega arith) _ (rw (← c.more.ensures) at (two_groups v (omega arith) (omega arith))) _ _ p.ensures
 
-pub returns-then-room-length : goal.returns-then-room-length
-returns-then-room-length c =
-    let k = length_known c.args.value c.in_ok-length.length c.in_ok-length.ensures in
-    none_room c.args.at c.args.value c.args.out.now k.0 (omega (arith, k.1))
+pub returns-in-16384-to-2097151 : goal.returns-in-16384-to-2097151
+returns-in-16384-to-2097151 c =
+    let v = c.args.value in
+    let p = c.put_groups-in-16384-to-2097151 in
+    groups_written c.args.at v c.args.out.now (omega arith) _
+    (rw (← c.more-in-16384-to-2097151.ensures, ← c.more-in-16384-to-2097151-2.ensures) at (three_groups v (omega arith))) _ _ p.ensures
 
-pub put_groups-requires : goal.put_groups-requires
-put_groups-requires c =
-    let k = length_known c.args.value c.in_ok-length.length c.in_ok-length.ensures in
-    record { small = k.0; room = simp (length-take, length-drop) (omega (arith, k.1, c.if-room-length.false, c.in_ok-room.ensures)) }
-
-pub returns : goal.returns
-returns c =
-    let k = length_known c.args.value c.in_ok-length.length c.in_ok-length.ensures in
-    all_stored c.args.at c.args.value c.args.out.now k.0 c.in_ok-length.length k.1 (omega arith) c.put_groups.new.room c.put_groups.ensures
+pub returns-in_default : goal.returns-in_default
+returns-in_default c = none_large c.args.at c.args.value c.args.out.now (omega arith)
