@@ -39,6 +39,6 @@ pub fn write_number(out: &mut [u8], at: usize, value: u32) -> Option<usize>
             at,
             &[more(value), more(value / 128), (value / 16384) as u8],
         ),
-        _ => None,
+        _ => None, // above the largest
     }
 }
