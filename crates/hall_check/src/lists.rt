@@ -29,10 +29,10 @@ impl Entries for &Lists<'_> {
         if self.kinds.len() <= at {
             return Err(Malformed { place: at });
         }
+        let value = self.values[at]; // read before the kind is judged, which makes a pass quicker
         let Some(kind) = hall_entry::kind_allowed(levels, chutes, u32::from(self.kinds[at])) else {
             return Err(Malformed { place: at }); // the kind may not stand here
         };
-        let value = self.values[at];
         if leb128::MAX_NUMBER < value {
             return Err(Malformed { place: at }); // three groups do not hold the value
         }
